@@ -1,7 +1,7 @@
 //! Typed BSON: the bytes of a document are read at a *shape* as a value of serde's data model, and such a value is written as the bytes of a document.
 //!
 //! This crate re-exports the public names of the crates below it, so that a program imports all it needs from here; docs/USING.md has a whole program. Each
-//! function that needs memory takes an allocator, and returns an error when it is out of memory. Every function returns, on every input that its contract allows.
+//! function that needs memory takes an allocator, and returns an error when it is out of memory. Every function returns, on every input that its contract allows, where there is room on the stack.
 //!
 //! | subject | names |
 //! |---|---|
@@ -25,8 +25,8 @@
 //! | texts | `date_text`, `date_of_text`, `integer_of_text`, `subtype_of_text`; `DateError`, `NotDate`, `NotHex`, `NotUuid` |
 //! | contracts | `laws`; the definitions that contracts name, as `Rattle.bson.specs.Tree` |
 //!
-//! The examples are the functions of the crates `bson_examples`, `bson_example_values` and `bson_example_types`, where each is proved; the program `bson_tour` runs each once. An example
-//! without a clause is proved too: it is safe, and it returns.
+//! The examples are the functions of the programs `bson_examples`, `bson_example_values` and `bson_example_types`, where each is proved, and run once. An example without a clause is
+//! proved too: it is safe, and it returns.
 //!
 //! # Types of one's own
 //!
@@ -74,7 +74,7 @@
 //!
 //! # Shapes and their notation
 //!
-//! A shape says which values are read, and what they become. The README's table has every form of its notation. Makers such as `Shape::seq`,
+//! A shape says which values are read, and what they become. docs/SHAPES.md has every form of its notation. Makers such as `Shape::seq`,
 //! `Shape::structure`, `Shape::closed_structure` and, for recursive shapes, `Shape::definitions` make the same shapes without a text.
 //!
 //! `bson_examples/src/shapes.rt`:

@@ -1,4 +1,4 @@
--- What must be written for a call before its buffers are looked at: what the proofs of the calls need, and no definition.
+-- What must be written for a call before its buffers are looked at. For the contracts of functions inside this crate and their proofs; no public contract cites it.
 -- Source: this library's own calls with buffers.
 use Rattle.std.specs.Prelude.{◌≡◌, ◌<◌, ◌≤◌, ℕ, List, [], ◌∷◌, length, string_bytes}
 use Rattle.bson_kinds.specs.Text.{Bytes, Utf8}

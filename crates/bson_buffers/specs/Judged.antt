@@ -1,4 +1,4 @@
--- What the bytes of a shape are refused with: what the proofs of the calls need, and no definition. Source: this library's own calls with buffers.
+-- What the bytes of a shape are refused with. For the contracts of functions inside this crate and their proofs; no public contract cites it. Source: this library's own calls with buffers.
 use Rattle.std.specs.Prelude.{Result, Ok, Err, string_bytes}
 use Rattle.bson_kinds.specs.Text.{Bytes}
 use Rattle.bson_shape.specs.Form.{Form}

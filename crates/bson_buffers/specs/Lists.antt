@@ -18,7 +18,7 @@ use Rattle.bson_buffers.specs.declared.report.MigrationReport.{MigrationReport}
 use Rattle.bson_buffers.specs.declared.status.Status.{Status}
 use Rattle.bson_buffers.specs.declared.status.Status.TheVariants as statuses
 
--- where the document of a number begins in a file: behind those before it
+-- where the document with this number begins in a file: behind those before it
 abbrev pub offset_in : (file : Bytes) → (number : ℕ) → ℕ
 offset_in file number = sum_by length (take number (cut file).pieces)
 
@@ -40,13 +40,13 @@ unread_for f = record { status = number_of statuses.ReadRefused; text = printed_
 abbrev pub unwritten_for : Failure WriteFault → Reason
 unwritten_for f = record { status = number_of statuses.WriteRefused; text = printed_failure printed_write_fault f; front = printed_front f }
 
--- why a document is not recast; where its value is refused and is too long, it is either's
+-- why a document is not recast; where its value is refused and is also too long, the reason may be either
 abbrev pub IsReasonOf : Recast → Reason → Type 0
 IsReasonOf (writes bytes) r = ⊥
 IsReasonOf (unread f) r = r ≡ unread_for f
 IsReasonOf (unwritten expected too_long) r = (f : Failure WriteFault) × Unwritten (unwritten expected too_long) f × (r ≡ unwritten_for f)
 
--- the record of the document of a number, whose text begins here
+-- the record of the document with this number, whose text begins here
 abbrev pub record_of : (file : Bytes) → (text_start number : ℕ) → Reason → Refusal
 record_of file text_start number r = record {
   index = number;

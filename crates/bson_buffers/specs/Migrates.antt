@@ -12,8 +12,8 @@ use Rattle.bson_buffers.specs.Buffers.{Call, Writes, LacksSpace, Tells, IsSilent
 use Rattle.bson_buffers.specs.declared.status.Status.{Status}
 use Rattle.bson_buffers.specs.declared.status.Status.TheVariants as statuses
 
--- Every document is recast, and the buffer holds what the recasts write; migrated again at the shape, that is given back,
--- where the shape does not depend on whether the reader is human.
+-- Every document is recast, and the buffer holds what the recasts write. A migration of that output at the same shape gives it
+-- again, unless the shape depends on whether the reader is human.
 pub record MigratedRow (shape file : Bytes) (c : Call) : Type 0 where
   pub form : Form
   pub notation : DenotesShape shape form
@@ -24,8 +24,8 @@ pub record MigratedRow (shape file : Bytes) (c : Call) : Type 0 where
   pub no_text : Tells c []
   pub no_place : c.place ≡ 0
 
--- Some documents are not recast, and the text has a line, or the array a record, for each; the buffer holds what the others' recasts write, and migrated again that is given back, where the
--- shape does not depend on whether the reader is human.
+-- Some documents are not recast, and the text has a line, or the array a record, for each; the buffer holds what the others' recasts write. A migration of that output at
+-- the same shape gives it again, unless the shape depends on whether the reader is human.
 pub record RefusedRow (TellsOf : List NotRecast → Utf8 → Type 0) (shape file : Bytes) (c : Call) : Type 0 where
   pub form : Form
   pub notation : DenotesShape shape form
@@ -69,13 +69,13 @@ pub record BrokenRow (shape file : Bytes) (c : Call) : Type 0 where
   pub no_output : Writes c []
   pub no_text : Tells c []
 
--- the status for what a migration comes to
+-- the status for what a migration comes to, by how many bytes the buffer holds
 abbrev pub migration_status : (places : ℕ) → Migrating → Status
 migration_status places (broken place) = statuses.Broken
 migration_status places (migrated output []) = fitted places output statuses.Done
 migration_status places (migrated output (d ∷ ds)) = fitted places output statuses.SomeRefused
 
--- the status for a file at what may be a shape
+-- the status for a file at what may be a shape, by how many bytes the buffer holds
 abbrev pub migration_status_at : (places : ℕ) → (file : Bytes) → Result Form NoShape → Status
 migration_status_at places file (Err why) = statuses.ShapeRefused
 migration_status_at places file (Ok s) = migration_status places (migration_of s file)

@@ -1,2 +1,2 @@
--- What the proofs of the calls need, and no definition.
+-- For the contracts of functions inside this crate and their proofs; no public contract cites it.
 pub mod Listed

@@ -12,8 +12,8 @@ use Rattle.bson_buffers.specs.Buffers.{Call, Writes, LacksSpace, Tells, IsSilent
 use Rattle.bson_buffers.specs.declared.status.Status.{Status}
 use Rattle.bson_buffers.specs.declared.status.Status.TheVariants as statuses
 
--- The document is recast, and the buffer holds what the recast writes; recast again at the shape, that is given back, where the
--- shape does not depend on whether the reader is human.
+-- The document is recast, and the buffer holds what the recast writes. A recast of that output at the same shape gives it again,
+-- unless the shape depends on whether the reader is human.
 pub record RecastRow (shape bytes : Bytes) (c : Call) : Type 0 where
   pub form : Form
   pub notation : DenotesShape shape form
@@ -54,17 +54,17 @@ pub record UnwrittenRow (shape bytes : Bytes) (c : Call) : Type 0 where
   pub no_output : Writes c []
   pub no_place : c.place ≡ 0
 
--- the status for an output, where a buffer has so many places
+-- the status for an output, by how many bytes the buffer holds
 abbrev pub fitted : (places : ℕ) → Bytes → Status → Status
 fitted places output status = if nat_lt places (length output) then statuses.BufferTooSmall else status
 
--- the status for what a recast comes to
+-- the status for what a recast comes to, by how many bytes the buffer holds
 abbrev pub recast_status : (places : ℕ) → Recast → Status
 recast_status places (writes output) = fitted places output statuses.Done
 recast_status places (unread f) = statuses.ReadRefused
 recast_status places (unwritten expected too_long) = statuses.WriteRefused
 
--- the status for a document at what may be a shape
+-- the status for a document at what may be a shape, by how many bytes the buffer holds
 abbrev pub recast_status_at : (places : ℕ) → (bytes : Bytes) → Result Form NoShape → Status
 recast_status_at places bytes (Err why) = statuses.ShapeRefused
 recast_status_at places bytes (Ok s) = recast_status places (recast_of s bytes)

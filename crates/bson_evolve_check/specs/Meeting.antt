@@ -1,4 +1,4 @@
--- The pairs that were met, by the numbers of their parts. Source: depth-first search.
+-- The pairs that were met, by the numbers of their parts. Source: this library's own comparison of shapes, by depth-first search.
 use Rattle.std.specs.Prelude.{◌≡◌, ◌<◌, ℕ, Bool, true, List, ◌∷◌, length, not, if◌then◌else◌}
 use Rattle.std.specs.BTreeSet.{BTreeSet, contains}
 use Rattle.std.specs.declared.cmp.Ordering.{Ordering}

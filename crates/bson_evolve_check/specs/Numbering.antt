@@ -60,7 +60,7 @@ pub record AreGood (p : Parts) : Type 0 where
   pub numbered : IsNumbering (tables_in p.tables) p.known.items p.numbers
   pub found : (k : Origin) (s : Part) → get origin_cmp p.found k ≡ Some s → IsPart (tables_in p.tables) (parts_in p) s
 
--- Whatever had a number has the same still.
+-- Each table of definitions and each part keeps its number, and what is known now is good (`AreGood`).
 pub record AreMore (old new : Parts) : Type 0 where
   pub tables : IsMore (tables_in old.tables) (tables_in new.tables)
   pub parts : Extends (parts_in new) (parts_in old)

@@ -15,7 +15,7 @@ IsAt [] k x = ⊥
 IsAt (y ∷ ys) zero x = y ≡ x
 IsAt (y ∷ ys) (suc k) x = IsAt ys k x
 
--- no two indexes have the same
+-- no item is at two indexes
 abbrev pub AreDifferent : {A : Type 0} → List A → Type 0
 AreDifferent {A} xs = (i j : ℕ) (x : A) → IsAt xs i x → IsAt xs j x → i ≡ j
 
@@ -34,7 +34,7 @@ place_view p = placed (fields_of p.table.definitions.now) p.shape.now
 abbrev pub IsTable : List Fields → Table → Type 0
 IsTable hs t = IsAt hs t.number (fields_of t.definitions.now)
 
--- Whatever had a number has the same still, and no two numbers have the same.
+-- Each item keeps its number, and no item has two numbers.
 pub record IsMore {A : Type 0} (old new : List A) : Type 0 where
   pub kept : Extends new old
   pub different : AreDifferent new

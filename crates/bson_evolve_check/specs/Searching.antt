@@ -1,4 +1,4 @@
--- What the search has and what it finds. Source: depth-first search.
+-- What the search has and what it finds. Source: this library's own comparison of shapes, by depth-first search.
 use Rattle.std.specs.Prelude.{◌≡◌, ◌≤◌, ◌+◌, ℕ, Bool, true, false, List, [], ◌∷◌, ◌++◌, length, map, reverse, take, Option, Some, None}
 use Rattle.std.specs.BTreeSet.{btree_set_len, BTreeSet}
 use Rattle.bson_shape.specs.Form.{Form, Fields}

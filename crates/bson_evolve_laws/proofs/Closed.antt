@@ -17,6 +17,7 @@ use Rattle.bson_laws.specs.Named.{form_of}
 use Rattle.bson_evolve_laws.specs.Placed.{Placed, placed, peel}
 use Rattle.bson_evolve_laws.specs.Rows.{Step, step, Answer, passes_if, and_also, field_row, struct_row, are_known, parts_row, each_part, each_field, each_value, is_documents, keys_pass, names_pass, content_row, enum_row, each_in_content, each_content, to_any, is_units, to_unit, to_texts, to_document, to_leaf, to_optional, to_sequence, to_tuple, to_map, to_struct, to_closed, to_enum, row}
 use Rattle.bson_evolve_laws.proofs.Peels.{IsAround, IsPart}
+use Rattle.bson_kinds.proofs.Apart.{no_some}
 
 -- ---- relations
 
@@ -55,14 +56,14 @@ closed_passing R closed a b r (suc n) =
 -- ---- the new side
 
 found_content : (vs : Variants) (name : Utf8) (c : Content) → AreVariants vs → content_of vs name ≡ Some c → IsContent c
-found_content no_variants name c a e = absurd cc
+found_content no_variants name c a e = absurd (no_some e)
 found_content (variant n d vs) name c a e = by_case (bytes_eq n name) e (λ i. found_content vs name c a.2 i) where
   by_case : (b : Bool) → cond b (Some d) (content_of vs name) ≡ Some c → (content_of vs name ≡ Some c → IsContent c) → IsContent c
   by_case true i others = subst IsContent (some_is d c i) a.1
   by_case false i others = others i
 
 found_plain : (g : Fields) (vs : Variants) (name : Utf8) (c : Content) → AreVariantsPlainIn g vs → content_of vs name ≡ Some c → IsContentPlainIn g c
-found_plain g no_variants name c a e = absurd cc
+found_plain g no_variants name c a e = absurd (no_some e)
 found_plain g (variant n d vs) name c a e = by_case (bytes_eq n name) e (λ i. found_plain g vs name c a.2 i) where
   by_case : (b : Bool) → cond b (Some d) (content_of vs name) ≡ Some c → (content_of vs name ≡ Some c → IsContentPlainIn g c) → IsContentPlainIn g c
   by_case true i others = subst (IsContentPlainIn g) (some_is d c i) a.1

@@ -32,6 +32,7 @@ use Rattle.bson_laws.specs.Named.{has}
 use Rattle.bson_evolve_laws.specs.Placed.{placed, peel}
 use Rattle.bson_evolve_laws.proofs.Layer.{AllTrees, AllPairs, HoldsAt, KeysIn, MayMiss, whole, Either, PartsAt, FieldsAt, ContentAt, VariantAt, Layer}
 use Rattle.bson_evolve_laws.proofs.Peels.{IsPeeled, IsAround, IsPart, peel_part, peeled}
+use Rattle.bson_kinds.proofs.Apart.{no_some}
 
 -- a value that fits the part means the tree
 pub record IsMeant (h : Fields) (s : Form) (t : Tree) : Type 0 where
@@ -68,7 +69,7 @@ content_unrolled m g (variant word c vs) name = by_case (bytes_eq word name) (co
   by_case false h = h
 
 unit_from : (m : ℕ) (g : Meanings) (o : Option Content) → option_map (λ c. unrolled_content m c g) o ≡ Some unit_content → o ≡ Some unit_content
-unit_from m g None e = absurd cc
+unit_from m g None e = absurd (no_some e)
 unit_from m g (Some unit_content) e = refl
 unit_from m g (Some (newtype_content s)) e = absurd cc
 unit_from m g (Some (tuple_content ps)) e = absurd cc
@@ -84,17 +85,17 @@ struct_is : (fs gs : Fields) → Some (struct_content fs) ≡ Some (struct_conte
 struct_is fs gs e = cc
 
 newtype_from : (m : ℕ) (g : Meanings) (o : Option Content) (r : Form) → option_map (λ c. unrolled_content m c g) o ≡ Some (newtype_content r) → (s : Form) × (o ≡ Some (newtype_content s)) × (unrolled.unrolled m s g ≡ r)
-newtype_from m g None r e = absurd cc
+newtype_from m g None r e = absurd (no_some e)
 newtype_from m g (Some (newtype_content s)) r e = (s, refl, newtype_is (unrolled.unrolled m s g) r e)
 newtype_from m g (Some c) r e = absurd cc
 
 tuple_from : (m : ℕ) (g : Meanings) (o : Option Content) (qs : Parts) → option_map (λ c. unrolled_content m c g) o ≡ Some (tuple_content qs) → (ps : Parts) × (o ≡ Some (tuple_content ps)) × (unrolled_parts m ps g ≡ qs)
-tuple_from m g None qs e = absurd cc
+tuple_from m g None qs e = absurd (no_some e)
 tuple_from m g (Some (tuple_content ps)) qs e = (ps, refl, tuple_is (unrolled_parts m ps g) qs e)
 tuple_from m g (Some c) qs e = absurd cc
 
 struct_from : (m : ℕ) (g : Meanings) (o : Option Content) (gs : Fields) → option_map (λ c. unrolled_content m c g) o ≡ Some (struct_content gs) → (fs : Fields) × (o ≡ Some (struct_content fs)) × (unrolled_fields m fs g ≡ gs)
-struct_from m g None gs e = absurd cc
+struct_from m g None gs e = absurd (no_some e)
 struct_from m g (Some (struct_content fs)) gs e = (fs, refl, struct_is (unrolled_fields m fs g) gs e)
 struct_from m g (Some c) gs e = absurd cc
 
@@ -106,14 +107,14 @@ pub unit_kept : (m : ℕ) (g : Meanings) (vs : Variants) (name : Utf8) → conte
 unit_kept m g vs name e = content_unrolled m g vs name ∙ ap (option_map (λ c. unrolled_content m c g)) e
 
 found_content : (vs : Variants) (name : Utf8) (c : Content) → AreVariants vs → content_of vs name ≡ Some c → IsContent c
-found_content no_variants name c a e = absurd cc
+found_content no_variants name c a e = absurd (no_some e)
 found_content (variant n d vs) name c a e = by_case (bytes_eq n name) e (λ i. found_content vs name c a.2 i) where
   by_case : (b : Bool) → cond b (Some d) (content_of vs name) ≡ Some c → (content_of vs name ≡ Some c → IsContent c) → IsContent c
   by_case true i others = subst IsContent (some_is d c i) a.1
   by_case false i others = others i
 
 found_plain : (g : Fields) (vs : Variants) (name : Utf8) (c : Content) → AreVariantsPlainIn g vs → content_of vs name ≡ Some c → IsContentPlainIn g c
-found_plain g no_variants name c a e = absurd cc
+found_plain g no_variants name c a e = absurd (no_some e)
 found_plain g (variant n d vs) name c a e = by_case (bytes_eq n name) e (λ i. found_plain g vs name c a.2 i) where
   by_case : (b : Bool) → cond b (Some d) (content_of vs name) ≡ Some c → (content_of vs name ≡ Some c → IsContentPlainIn g c) → IsContentPlainIn g c
   by_case true i others = subst (IsContentPlainIn g) (some_is d c i) a.1

@@ -13,6 +13,7 @@ use Rattle.bson_laws.specs.Recursive.{IsTable}
 use Rattle.bson_laws.specs.Unrolled.{repeated}
 use Rattle.bson_laws.proofs.Fitted.{unlike_swap}
 use Rattle.bson_evolve_laws.specs.Placed.{Placed, placed, undefined, seen, seen_name, names_in, peel}
+use Rattle.bson_kinds.proofs.Apart.{no_some}
 
 -- a form that is seen through already: no newtype, no mark, no definitions, and no reference
 abbrev pub IsPeeled : Form → Type 0
@@ -155,14 +156,14 @@ pub peel_is : (h : Fields) (s : Form) → IsPart h s → IsPeeled (peel (placed 
 peel_is = peeled (λ h s q. IsPeeled q.form) (λ h s p. p) (λ h n s q p c. c) (λ h s q p c. c) (λ h k s q p c. c) (λ h n s q p e c. c)
 
 found_shape : (h : Fields) (n : Utf8) (s : Form) → AreShapes h → definition h n ≡ Some s → IsShape s
-found_shape no_fields n s a e = absurd cc
+found_shape no_fields n s a e = absurd (no_some e)
 found_shape (field name r h) n s a e = by_case (bytes_eq name n) e (λ i. found_shape h n s a.2 i) where
   by_case : (b : Bool) → cond b (Some r) (definition h n) ≡ Some s → (definition h n ≡ Some s → IsShape s) → IsShape s
   by_case true i others = subst IsShape (some_is r s i) a.1
   by_case false i others = others i
 
 found_plain : (around h : Fields) (n : Utf8) (s : Form) → AreDefinitionsPlainIn around h → definition h n ≡ Some s → IsPlainIn around s
-found_plain around no_fields n s a e = absurd cc
+found_plain around no_fields n s a e = absurd (no_some e)
 found_plain around (field name r h) n s a e = by_case (bytes_eq name n) e (λ i. found_plain around h n s a.1 i) where
   by_case : (b : Bool) → cond b (Some r) (definition h n) ≡ Some s → (definition h n ≡ Some s → IsPlainIn around s) → IsPlainIn around s
   by_case true i others = subst (IsPlainIn around) (some_is r s i) a.0
@@ -214,7 +215,7 @@ name_local (field name s rest) f g key l = by_case (bytes_eq name key) l (λ k. 
   by_case false k others = others k
 
 found_hides : (rest : Fields) (f : Utf8 → ℕ) (key : Utf8) (s : Form) → definition rest key ≡ Some s → hides_name f rest key ≡ hides_by f s
-found_hides no_fields f key s e = absurd cc
+found_hides no_fields f key s e = absurd (no_some e)
 found_hides (field name r rest) f key s e = by_case (bytes_eq name key) e (λ i. found_hides rest f key s i) where
   by_case : (b : Bool) → cond b (Some r) (definition rest key) ≡ Some s → (definition rest key ≡ Some s → hides_name f rest key ≡ hides_by f s) → cond b (hides_by f r) (hides_name f rest key) ≡ hides_by f s
   by_case true i others = ap (hides_by f) (some_is r s i)

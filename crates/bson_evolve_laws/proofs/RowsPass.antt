@@ -24,6 +24,7 @@ use Rattle.bson_evolve_laws.specs.Rows.{Step, Answer, passes_if, and_also, field
 use Rattle.bson_evolve_laws.proofs.Somes.{mapped, both_some}
 use Rattle.bson_evolve_laws.proofs.Deep.{Deep, DeepTrees, DeepPairs, AllValues, deep_at, Found, found_all}
 use Rattle.bson_evolve_laws.proofs.LeavesPass.{free_pass, leaf_pass}
+use Rattle.bson_kinds.proofs.Apart.{no_some}
 
 both_true : (a b : Bool) → (a && b) ≡ true → (a ≡ true) × (b ≡ true)
 both_true true b e = (refl, e)
@@ -58,7 +59,7 @@ first_content true c d o e f g = f refl cc
 first_content false c d o e f g = g e
 
 name_in : (vs ws : Variants) (key : Utf8) (c : Content) → names_in vs ws ≡ true → content_of vs key ≡ Some c → is_unit_name (content_of ws key) ≡ true
-name_in no_variants ws key c n e = absurd cc
+name_in no_variants ws key c n e = absurd (no_some e)
 name_in (variant m d vs) ws key c n e =
     let b = both_true _ _ n in
     first_content (bytes_eq m key) d c (content_of vs key) e (λ is same. subst (λ k. is_unit_name (content_of ws k) ≡ true) (bytes_same m key is) b.0) (λ f. name_in vs ws key c b.1 f)
@@ -193,7 +194,7 @@ module _ (R : Form → Form → Type 0) (H K : Form → Tree → Type 0) (bson_H
   first_form false x y o e f g = g e
 
   held_at : (fs : Fields) (ps : Pairs) (n : Utf8) (x : Form) → FieldsAt whole H fs ps → form_of fs n ≡ Some x → HoldsAt (H x) ⊥ (lookup n ps)
-  held_at no_fields ps n x h e = absurd cc
+  held_at no_fields ps n x h e = absurd (no_some e)
   held_at (field m z fs) ps n x h e =
       first_form (bytes_eq m n) z x (form_of fs n) e
       (λ is same. subst (λ k. HoldsAt (H x) ⊥ (lookup k ps)) (bytes_same m n is) (subst (λ w. HoldsAt (H w) ⊥ (lookup m ps)) same h.0))
@@ -204,7 +205,7 @@ module _ (R : Form → Form → Type 0) (H K : Form → Tree → Type 0) (bson_H
   first_tree false u t o e f g = g e
 
   key_has : (ps : Pairs) (gs : Fields) (n : Utf8) (t : Tree) → KeysIn ps gs → lookup n ps ≡ Some t → has gs n ≡ true
-  key_has no_pairs gs n t k e = absurd cc
+  key_has no_pairs gs n t k e = absurd (no_some e)
   key_has (pair m u ps) gs n t k e = first_tree (bytes_eq n m) u t (lookup n ps) e (λ is. ap (has gs) (bytes_same n m is) ∙ k.0) (λ f. key_has ps gs n t k.1 f)
 
   none_has : (fs : Fields) (n : Utf8) → form_of fs n ≡ None → has fs n ≡ false
@@ -306,7 +307,7 @@ module _ (R : Form → Form → Type 0) (H K : Form → Tree → Type 0) (bson_H
   unit_row n o m = absurd m
 
   enum_unit : (vs ws : Variants) (key : Utf8) → Met R (enum_row vs ws) → content_of vs key ≡ Some unit_content → content_of ws key ≡ Some unit_content
-  enum_unit no_variants ws key m e = absurd cc
+  enum_unit no_variants ws key m e = absurd (no_some e)
   enum_unit (variant n c vs) ws key m e =
       let r = met_both (content_row n c (content_of ws n)) (enum_row vs ws) m in
       first_content (bytes_eq n key) c unit_content (content_of vs key) e

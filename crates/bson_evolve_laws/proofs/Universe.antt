@@ -17,6 +17,7 @@ use Rattle.bson_evolve_laws.specs.Rows.{Step, row}
 use Rattle.bson_evolve_laws.proofs.Peels.{IsAround, IsPart, inside, in_newtype, in_lossy, peeled}
 use Rattle.bson_evolve_laws.proofs.Searched.{In}
 use Rattle.bson_evolve_laws.proofs.StepParts.{PartsAll, FieldsAll, ContentAll, VariantsAll, InnerAll, Named, row_named}
+use Rattle.bson_kinds.proofs.Apart.{no_some}
 
 -- ---- lists of places
 
@@ -197,7 +198,7 @@ module _ (U : List Placed) where
   held_at (x ∷ xs) p a (inr i) = held_at xs p a.1 i
 
   found_here : (h k : Fields) (n : Utf8) (x : Form) → FieldsAll (Here h) k → definition k n ≡ Some x → Here h x
-  found_here h no_fields n x a e = absurd cc
+  found_here h no_fields n x a e = absurd (no_some e)
   found_here h (field name s k) n x a e = by_case (bytes_eq name n) e (λ i. found_here h k n x a.1 i) where
     by_case : (b : Bool) → cond b (Some s) (definition k n) ≡ Some x → (definition k n ≡ Some x → Here h x) → Here h x
     by_case true i others = subst (Here h) (some_is s x i) a.0

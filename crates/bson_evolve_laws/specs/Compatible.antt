@@ -18,7 +18,7 @@ Met R (Some ss) = Meets R ss
 abbrev pub RowMeets : (Placed → Placed → Type 0) → Placed → Placed → Type 0
 RowMeets R a b = Met (λ x y. R (placed a.around x) (placed b.around y)) (row a.form b.form)
 
--- the pairs that are reached from this one in fewer than so many steps pass; the pair itself is reached in none
+-- the pairs that are reached from this one in fewer than so many steps pass; the pair itself is reached in 0 steps
 abbrev pub PassesTo : ℕ → Placed → Placed → Type 0
 PassesTo zero a b = Unit {0}
 PassesTo (suc n) a b = RowMeets (PassesTo n) (peel a) (peel b)

@@ -1,4 +1,4 @@
--- The first place where compatibility fails. Source: depth-first search.
+-- The first place where compatibility fails. Source: this library's own comparison of shapes, by depth-first search.
 use Rattle.std.specs.Prelude.{◌≡◌, ℕ, zero, suc, ◌*◌, length, Bool, false, ◌&&◌, ◌||◌, if◌then◌else◌, List, [], ◌∷◌, ◌++◌, map, Option, Some, None}
 use Rattle.bson_shape.specs.Form.{Form, no_fields}
 use Rattle.bson_values.specs.Refusal.{Path}
@@ -54,7 +54,7 @@ abbrev pub entered_first : (List Pair → List PendingPair → Outcome) → List
 entered_first go_on met [] = all_pass met
 entered_first go_on met (d ∷ pending) = entered go_on met d pending (row d.pair.old.form d.pair.new.form)
 
--- The search: the first of the pairs that are to be entered and were not met before is entered, and so on. It is cut off before it has entered so many.
+-- The search: the first of the pairs that are to be entered and were not met before is entered, and so on. It is cut off as soon as it has entered so many.
 abbrev pub search : ℕ → List Pair → List PendingPair → Outcome
 search zero met pending = cut_off
 search (suc n) met pending = entered_first (λ more later. search n more later) met (unmet met pending)
@@ -67,7 +67,7 @@ start old new = record { path = []; pair = pair_of (placed no_fields old) (place
 abbrev pub IsFirstFault : (old new : Form) → Path → Type 0
 IsFirstFault old new path = (n : ℕ) × (search n [] (start old new ∷ []) ≡ fault path)
 
--- more pairs than there are of parts of the two shapes
+-- one more than there are pairs of a part of each shape
 unfoldable pub most_pairs : (old new : Form) → ℕ
 most_pairs old new = suc (length (all_places old) * length (all_places new))
 

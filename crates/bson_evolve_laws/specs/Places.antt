@@ -5,8 +5,8 @@ use Rattle.bson_shape.specs.declared.leaf.Leaf.TheVariants.{Bson}
 use Rattle.bson_evolve_laws.specs.Placed.{Placed, placed}
 
 abbrev mutual
-  -- A form in the definitions around it, and all its parts, but for the keys of maps. With definitions come each of them and `bson`, which the values of documents
-  -- are.
+  -- A form in the definitions around it, and all its parts, but for the keys of maps. With definitions come each of them and `bson`, which row 23 takes
+  -- for the values of a `document`.
   pub places : Fields → Form → List Placed
   places h (leaf l) = placed h (leaf l) ∷ []
   places h (optional s) = placed h (optional s) ∷ places h s
@@ -42,6 +42,6 @@ abbrev mutual
   content_places h (tuple_content ps) = part_places h ps
   content_places h (struct_content fs) = field_places h fs
 
--- the parts of a shape, around which there are no definitions, and `bson`
+-- all parts of a shape that stands in no definitions, and `bson`
 abbrev pub all_places : Form → List Placed
 all_places s = placed no_fields (leaf Bson) ∷ places no_fields s

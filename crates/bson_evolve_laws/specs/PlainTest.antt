@@ -1,4 +1,4 @@
--- Whether a shape is plain. Source: bsonspec.org, version 1.1, `e_name` and `cstring`, with serde's data model.
+-- Whether a shape is plain: `IsPlain` as a test, row for row. Source: bsonspec.org, version 1.1, `e_name` and `cstring`, with serde's data model.
 use Rattle.std.specs.Prelude.{Bool, true, false, ◌&&◌}
 use Rattle.bson_kinds.specs.Text.{is_free_name}
 use Rattle.bson_shape.specs.Form.{Form, leaf, optional, lossy, human_readable, by_mode, sequence, newtype, unit_structure, map, tuple, tuple_structure, structure, enumeration, reference, definitions, Fields, no_fields, field, Parts, no_parts, part, Content, unit_content, newtype_content, tuple_content, struct_content, Variants, no_variants, variant}
@@ -8,6 +8,7 @@ use Rattle.bson_shape.specs.declared.leaf.Leaf.TheVariants.{Str}
 use Rattle.bson_laws.specs.Leaves.{LeafKind, ignored, raw_documents, raw_arrays, raw_values, leaf_kind}
 use Rattle.bson_evolve_laws.specs.Rows.{is_texts}
 
+-- a leaf other than `ignored` and the three raw ones
 abbrev pub is_kept : LeafKind → Bool
 is_kept ignored = false
 is_kept raw_documents = false
@@ -15,6 +16,7 @@ is_kept raw_arrays = false
 is_kept raw_values = false
 is_kept k = true
 
+-- a leaf other than `str`
 abbrev pub owns_text_leaf : Leaf → Bool
 owns_text_leaf Str = false
 owns_text_leaf l = true

@@ -35,11 +35,11 @@ fails = None
 abbrev pub passes_if : Bool → Answer
 passes_if b = if b then passes else fails
 
--- the same value at these two
+-- the pair of these two alone, at the same path
 abbrev pub needs : Form → Form → Answer
 needs x y = Some (step [] x y ∷ [])
 
--- the steps of two lists
+-- the pairs of the first answer and then those of the second, where both pass
 abbrev pub and_also : Answer → Answer → Answer
 and_also o p = option_and_then (λ ss. option_map (λ rest. ss ++ rest) p) o
 
@@ -190,10 +190,12 @@ abbrev pub each_content : Variants → Form → List Step
 each_content no_variants y = []
 each_content (variant name c vs) y = each_in_content name c y ++ each_content vs y
 
+-- the content is not that of a unit variant
 abbrev pub is_no_unit : Content → Bool
 is_no_unit unit_content = false
 is_no_unit c = true
 
+-- no variant is a unit variant
 abbrev pub no_units : Variants → Bool
 no_units no_variants = true
 no_units (variant name c vs) = is_no_unit c && no_units vs

@@ -24,7 +24,7 @@ new_word = codes "new"
 abbrev pub line_at : (which : Utf8) → ℕ → ParseError → Utf8
 line_at which place e = codes "shape " ++ (which ++ (codes " refused at " ++ (decimal place ++ (codes ": " ++ (refusal_text e ++ newline)))))
 
--- the line for an error of the parser, but because memory ran out
+-- the line for an error of the parser; none where memory ran out
 abbrev pub line_for : (which : Utf8) → ParseError → Option Utf8
 line_for which (errors.NotNotation place) = Some (line_at which place (errors.NotNotation place))
 line_for which (errors.Refused place cause) = Some (line_at which place (errors.Refused place cause))

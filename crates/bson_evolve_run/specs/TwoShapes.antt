@@ -32,7 +32,7 @@ or_line which (Err r) = Err (refusal_line which r)
 abbrev pub shape_of : (which word : Utf8) → Result Form Utf8
 shape_of which word = or_line which (parsed word)
 
--- The word of this name is the notation of no shape, for this place.
+-- The longest front of the word with which some notation begins ends at this place, and no maker refuses in it; the line tells this, with the name of the word.
 pub record IsNoNotation (which word line : Utf8) : Type 0 where
   pub place : ℕ
   pub stops : IsNotNotationAt word place
@@ -49,7 +49,7 @@ pub record IsRefusedForm (which word line : Utf8) : Type 0 where
 abbrev pub RefusesWord : (which word line : Utf8) → Type 0
 RefusesWord which word line = IsNoNotation which word line ⊎ IsRefusedForm which word line
 
--- the shape that the word of this name is the notation of, or the line that refuses it
+-- A call returns the shape that the word of this name is the notation of, or the line that refuses it.
 abbrev pub IsShapeOf : (which word : Utf8) → Result Form (String Global) → Type 0
 IsShapeOf which word (Ok s) = IsNotation word s × (shape_of which word ≡ Ok s)
 IsShapeOf which word (Err line) = RefusesWord which word (string_bytes line) × (shape_of which word ≡ Err (string_bytes line))
@@ -66,7 +66,7 @@ pub record AsksFor (words : List Utf8) (shapes : Shapes) : Type 0 where
   pub notations : words ≡ text shapes.old ∷ text shapes.new ∷ []
   pub good : AreGood shapes
 
--- They are not two.
+-- There are not two words.
 pub record AreNotTwo (words : List Utf8) (line : Utf8) : Type 0 where
   pub other : (old new : Utf8) → words ≢ old ∷ new ∷ []
   pub says : line ≡ usage_line

@@ -19,7 +19,7 @@ abbrev pub Answers : {X Y : Type 0} → (X → Y) → Result X WriteError → Wr
 Answers see (Ok x) answer = answer ≡ Ok (see x)
 Answers see (Err e) answer = answer ≡ Err (write_failure e)
 
--- what is not read, and what is not written, for a cause
+-- the failure for a cause, without a path: of reading, and of writing
 abbrev pub no_reading : Cause → Failure ReadFault
 no_reading cause = bare (unreadable cause)
 
@@ -39,7 +39,7 @@ number_as_i64 n = if nat_lt 9223372036854775807 n then Err (no_writing (not_i64 
 abbrev pub id_as_text : Bytes → Writing Value
 id_as_text id = Ok (str (digits id))
 
--- what is written of a text by the ObjectId that it names, where it names one
+-- The ObjectId of a text, as it is written; `NotObjectId` where the text is none.
 abbrev pub id_of : Utf8 → Option Bytes → Writing Value
 id_of text None = Err (no_writing (not_object_id text))
 id_of text (Some id) = Ok (id_datum id)
@@ -52,7 +52,7 @@ text_of_id v = result_map digits (taken_id v)
 
 -- ---- times and their texts
 
--- what is written of a text by the time that it names, where it names one
+-- The time of a text, as it is written; `NotDate` where the text is none.
 abbrev pub date_of : Utf8 → Option ℤ → Writing Value
 date_of text None = Err (no_writing (not_date text))
 date_of text (Some n) = Ok (date_datum n)
@@ -60,7 +60,7 @@ date_of text (Some n) = Ok (date_datum n)
 abbrev pub text_as_date : Utf8 → Writing Value
 text_as_date text = date_of text (date_of_text text)
 
--- what a text is read as by the time that it names, where it names one
+-- the time of a text, or `NotDate`
 abbrev pub date_read : Utf8 → Option ℤ → Reading ℤ
 date_read text None = Err (no_reading (not_date text))
 date_read text (Some n) = Ok n

@@ -12,6 +12,7 @@ use Rattle.bson_shape.specs.contracts.leaf.Leaf as leaf_type
 use Rattle.bson_laws.specs.Named.{form_of, has}
 use Rattle.bson_infer_laws.specs.Join.{same_leaf, nothing, is_nothing, is_unit, opt, grown, within, join_unlike, join_leaves, join_at, new_fields, join, join_fields}
 use Rattle.bson_infer_laws.specs.Above.{IsOptional, bare, IsBare, IsNothing, LeafAbove, FieldAbove, NamedIn, Above, FieldsAbove, IsJoined, AreJoined}
+use Rattle.bson_kinds.proofs.Apart.{no_some}
 
 pub either : (a b : Bool) → (a || b) ≡ true → (a ≡ true) ⊎ (b ≡ true)
 either true b e = inl refl
@@ -168,7 +169,7 @@ pub name_is : (m n : Utf8) → bytes_eq m n ≡ true → m ≡ n
 name_is m n e = (bytes_eq-Decides m n).0 e
 
 pub field_at : (gs hs : Fields) (n : Utf8) (y : Form) → FieldsAbove gs hs → form_of gs n ≡ Some y → FieldAbove (Above y) y (form_of hs n)
-field_at no_fields hs n y h e = absurd cc
+field_at no_fields hs n y h e = absurd (no_some e)
 field_at (field m x gs) hs n y h e =
     by_first (bytes_eq m n) x y (form_of gs n) e
     (λ is same. subst (λ k. FieldAbove (Above y) y (form_of hs k)) (name_is m n is) (subst (λ z. FieldAbove (Above z) z (form_of hs m)) same h.0))
@@ -179,7 +180,7 @@ named_at no_fields gs n h e = absurd cc
 named_at (field m z hs) gs n h e = by_name (bytes_eq m n) (has hs n) e (λ is. subst (λ k. has gs k ≡ true) (name_is m n is) h.0) (λ e'. named_at hs gs n h.1 e')
 
 pub has_some : (fs : Fields) (n : Utf8) (x : Form) → form_of fs n ≡ Some x → has fs n ≡ true
-has_some no_fields n x e = absurd cc
+has_some no_fields n x e = absurd (no_some e)
 has_some (field m y fs) n x e = by_first (bytes_eq m n) y x (form_of fs n) e (λ is same. or_left _ _ is) (λ e'. or_right _ _ (has_some fs n x e'))
 
 pub has_none : (fs : Fields) (n : Utf8) → form_of fs n ≡ None → has fs n ≡ false

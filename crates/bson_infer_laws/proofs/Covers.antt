@@ -20,6 +20,7 @@ use Rattle.bson_infer_laws.specs.Above.{bare, IsNothing, IsOptional, LeafAbove, 
 use Rattle.bson_infer_laws.specs.Inferred.{AllTrees}
 use Rattle.bson_infer_laws.proofs.Holds.{HoldsAt, KeysIn, Holds, FieldsHold, null_or}
 use Rattle.bson_infer_laws.proofs.Above.{lies, Lies, unit_is, nothing_is, option_up, by_first, name_is, has_none, named_at}
+use Rattle.bson_kinds.proofs.Apart.{no_some}
 
 bare_holds : (b : Form) (t : Tree) → Holds b t → (t ≡ null) ⊎ Holds (bare b) t
 bare_holds (optional s) null h = inl refl
@@ -88,7 +89,7 @@ first_tree true u t o e f g = f refl
 first_tree false u t o e f g = g e
 
 key_has : (ps : Pairs) (gs : Fields) (n : Utf8) (t : Tree) → KeysIn ps gs → lookup n ps ≡ Some t → has gs n ≡ true
-key_has no_pairs gs n t k e = absurd cc
+key_has no_pairs gs n t k e = absurd (no_some e)
 key_has (pair m u ps) gs n t k e = first_tree (bytes_eq n m) u t (lookup n ps) e (λ is. ap (has gs) (name_is n m is) ∙ k.0) (λ f. key_has ps gs n t k.1 f)
 
 keys_up : (ps : Pairs) (gs fs : Fields) → NamedIn gs fs → KeysIn ps gs → KeysIn ps fs
@@ -96,7 +97,7 @@ keys_up no_pairs gs fs n k = tt
 keys_up (pair m u ps) gs fs n k = (named_at gs fs m n k.0, keys_up ps gs fs n k.1)
 
 held_at : (gs : Fields) (ps : Pairs) (n : Utf8) (y : Form) → FieldsHold gs ps → form_of gs n ≡ Some y → HoldsAt (Holds y) (IsOptional y) (lookup n ps)
-held_at no_fields ps n y h e = absurd cc
+held_at no_fields ps n y h e = absurd (no_some e)
 held_at (field m x gs) ps n y h e =
     by_first (bytes_eq m n) x y (form_of gs n) e
     (λ is same. subst (λ k. HoldsAt (Holds y) (IsOptional y) (lookup k ps)) (name_is m n is) (subst (λ z. HoldsAt (Holds z) (IsOptional z) (lookup m ps)) same h.0))

@@ -11,6 +11,7 @@ use Rattle.bson_infer_laws.specs.Join.{is_nothing, is_unit, opt, within, join_un
 use Rattle.bson_infer_laws.specs.Above.{IsOptional, bare, IsBare, FieldAbove, NamedIn, Above, FieldsAbove, IsJoined, AreJoined}
 use Rattle.bson_laws.proofs.Fitted.{bytes_eq-refl, unlike_swap}
 use Rattle.bson_infer_laws.proofs.Above.{or_left, or_right, lies_within, unit_is, nothing_under, bare_above, bson_over, by_first, by_name, name_is, has_some}
+use Rattle.bson_kinds.proofs.Apart.{no_some}
 
 -- ---- a form is above itself
 
@@ -107,7 +108,7 @@ leaves_join l m false false e f = unlike (leaf l) (leaf m) tt tt tt tt
 -- ---- fields
 
 pub joined_at : (gs : Fields) (n : Utf8) (y : Form) → AreJoined gs → form_of gs n ≡ Some y → IsJoined y
-joined_at no_fields n y p e = absurd cc
+joined_at no_fields n y p e = absurd (no_some e)
 joined_at (field m x gs) n y p e = by_first (bytes_eq m n) x y (form_of gs n) e (λ is same. subst IsJoined same p.2) (λ e'. joined_at gs n y p.3 e')
 
 fields_both : (ks bs fs : Fields) → FieldsAbove ks fs → FieldsAbove bs fs → FieldsAbove (joined ks bs) fs

@@ -19,6 +19,7 @@ use Rattle.bson_infer_laws.specs.Above.{bare, IsBare, IsNothing, IsJoined, AreJo
 use Rattle.bson_infer_laws.specs.Inferred.{shape_of, pair_shapes, joined_shapes, inferred, AllTrees}
 use Rattle.bson_infer_laws.proofs.Above.{by_first}
 use Rattle.bson_infer_laws.proofs.Shapes.{list_joined}
+use Rattle.bson_kinds.proofs.Apart.{no_some}
 
 -- one step less, where there is one
 abbrev Under : ℕ → (ℕ → Type 0) → Type 0
@@ -55,7 +56,7 @@ unlike_low a b d p q =
     cond_low (is_nothing a) b _ d q (cond_low (is_nothing b) a _ d p (cond_low (is_unit a) (optional b) _ d q (cond_low (is_unit b) (optional a) (leaf Bson) d p tt)))
 
 low_at : (gs : Fields) (n : Utf8) (y : Form) (d : ℕ) → AllLow gs d → form_of gs n ≡ Some y → Low y d
-low_at no_fields n y d p e = absurd cc
+low_at no_fields n y d p e = absurd (no_some e)
 low_at (field m x gs) n y d p e = by_first (bytes_eq m n) x y (form_of gs n) e (λ is same. subst (λ s. Low s d) same p.1) (λ e'. low_at gs n y d p.2 e')
 
 field_low : (x : Form) (o : Option Form) (d : ℕ) → Low x d → ((y : Form) → o ≡ Some y → Low (join x y) d) → Low (join_at (join x) x o) d

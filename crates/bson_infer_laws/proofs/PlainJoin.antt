@@ -13,6 +13,7 @@ use Rattle.bson_laws.specs.Named.{form_of, has}
 use Rattle.bson_infer_laws.specs.Join.{nothing, is_nothing, is_unit, opt, within, join_unlike, join_at, new_fields, join, join_fields}
 use Rattle.bson_infer_laws.specs.Inferred.{shape_of, pair_shapes, joined_shapes, inferred}
 use Rattle.bson_infer_laws.proofs.Above.{by_first}
+use Rattle.bson_kinds.proofs.Apart.{no_some}
 
 cond_plain : (c : Bool) (x y : Form) → IsPlain x → IsPlain y → IsPlain (cond c x y)
 cond_plain true x y p q = p
@@ -28,7 +29,7 @@ unlike_plain a b p q =
     (cond_plain (is_nothing b) a _ p (cond_plain (is_unit a) (optional b) _ q (cond_plain (is_unit b) (optional a) (leaf Bson) p tt)))
 
 plain_at : (gs : Fields) (n : Utf8) (y : Form) → AreFieldsPlain gs → form_of gs n ≡ Some y → IsPlain y
-plain_at no_fields n y p e = absurd cc
+plain_at no_fields n y p e = absurd (no_some e)
 plain_at (field m x gs) n y p e = by_first (bytes_eq m n) x y (form_of gs n) e (λ is same. subst' x y same p.1) (λ e'. plain_at gs n y p.2 e')
   where
     subst' : (x y : Form) → x ≡ y → IsPlain x → IsPlain y

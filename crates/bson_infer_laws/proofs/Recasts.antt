@@ -35,6 +35,7 @@ use Rattle.bson_infer_laws.proofs.Seen.{view_usual}
 use Rattle.bson_infer_laws.proofs.Shapes.{each_views}
 use Rattle.bson_infer_laws.proofs.SortedOptions.{sorted_clean, sorted_depth}
 use Rattle.bson_infer_laws.proofs.Usual.{IsUsualLeaf, IsUsual, AreUsual, IsOfDocuments, inferred_usual, inferred_of}
+use Rattle.bson_kinds.proofs.Apart.{no_some}
 
 -- a value that is written where so many levels are left
 abbrev IsWritten : Value → ℕ → Type 0
@@ -63,33 +64,33 @@ long_written n v levels e = chosen_written (in_range i64 n) (value.integer i64 n
 
 booleans_written : (t : Tree) (v : Value) (levels : ℕ) → views_leaf booleans t ≡ Some v → IsWritten v levels
 booleans_written (boolean b) v levels e = written_as_it (value.boolean b) v levels e (boolean b, refl)
-booleans_written t v levels e = absurd cc
+booleans_written t v levels e = absurd (no_some e)
 
 ints_written : (t : Tree) (v : Value) (levels : ℕ) → views_leaf (numbers i32) t ≡ Some v → IsWritten v levels
 ints_written (int32 n) v levels e = chosen_written (in_range i32 n) (value.integer i32 n) v levels e (λ is. (int32 n, refl))
 ints_written (int64 n) v levels e = chosen_written (in_range i32 n) (value.integer i32 n) v levels e (λ is. (int32 n, refl))
-ints_written t v levels e = absurd cc
+ints_written t v levels e = absurd (no_some e)
 
 longs_written : (t : Tree) (v : Value) (levels : ℕ) → views_leaf (numbers i64) t ≡ Some v → IsWritten v levels
 longs_written (int32 n) v levels e = long_written n v levels e
 longs_written (int64 n) v levels e = long_written n v levels e
-longs_written t v levels e = absurd cc
+longs_written t v levels e = absurd (no_some e)
 
 doubles_written : (t : Tree) (v : Value) (levels : ℕ) → views_leaf doubles t ≡ Some v → IsWritten v levels
 doubles_written (double bits) v levels e = written_as_it (value.double bits) v levels e (double bits, refl)
-doubles_written t v levels e = absurd cc
+doubles_written t v levels e = absurd (no_some e)
 
 texts_written : (t : Tree) (v : Value) (levels : ℕ) → views_leaf texts t ≡ Some v → IsWritten v levels
 texts_written (string x) v levels e = written_as_it (value.str x) v levels e (string x, refl)
-texts_written t v levels e = absurd cc
+texts_written t v levels e = absurd (no_some e)
 
 buffers_written : (t : Tree) (v : Value) (levels : ℕ) → IsClean t → views_leaf byte_buffers t ≡ Some v → IsWritten v levels
 buffers_written (binary zero b) v levels c e = written_as_it (value.bytes b) v levels e (binary 0 b, binary_spelled 0 b c)
-buffers_written t v levels c e = absurd cc
+buffers_written t v levels c e = absurd (no_some e)
 
 units_written : (t : Tree) (v : Value) (levels : ℕ) → views_leaf units t ≡ Some v → IsWritten v levels
 units_written null v levels e = written_as_it value.unit v levels e (null, refl)
-units_written t v levels e = absurd cc
+units_written t v levels e = absurd (no_some e)
 
 -- the value that a tree is, with its options in order
 tree_written : (t : Tree) (levels : ℕ) → IsClean t → depth t ≤ levels → IsWritten (datum itself (sorted_tree t)) levels
@@ -97,7 +98,7 @@ tree_written t levels c d = (sorted_tree (sorted_tree t), datum_spelled false (s
 
 ids_written : (t : Tree) (v : Value) (levels : ℕ) → IsClean t → depth t ≤ levels → views_extended object_ids t ≡ Some v → IsWritten v levels
 ids_written (object_id id) v levels c d e = written_as_it (datum itself (object_id id)) v levels e (object_id id, datum_spelled false (object_id id) levels c d)
-ids_written t v levels c d e = absurd cc
+ids_written t v levels c d e = absurd (no_some e)
 
 kind_written : (k : ElementType) (t : Tree) (v : Value) (levels : ℕ) → IsClean t → depth t ≤ levels → views_extended (of_kind k) t ≡ Some v → IsWritten v levels
 kind_written k t v levels c d e = chosen_written _ (datum itself (sorted_tree t)) v levels e (λ is. tree_written t levels c d)
@@ -138,14 +139,14 @@ ViewsWritten s = (t : Tree) (v : Value) (levels : ℕ) → IsClean t → depth t
 
 absent_written : (s : Form) (v : Value) (levels : ℕ) → absent s ≡ Some v → IsWritten v levels
 absent_written (optional s) v levels e = written_as_it value.none v levels e (null, refl)
-absent_written s v levels e = absurd cc
+absent_written s v levels e = absurd (no_some e)
 
 first_found : (P : Tree → Type 0) (b : Bool) (u t : Tree) (o : Option Tree) → cond b (Some u) o ≡ Some t → P u → (o ≡ Some t → P t) → P t
 first_found P true u t o e h later = subst P (some_is u t e) h
 first_found P false u t o e h later = later e
 
 found_clean : (key : Utf8) (ps : Pairs) (t : Tree) (levels : ℕ) → ArePairsClean ps → pairs_depth ps ≤ levels → lookup key ps ≡ Some t → IsClean t × (depth t ≤ levels)
-found_clean key no_pairs t levels c d e = absurd cc
+found_clean key no_pairs t levels c d e = absurd (no_some e)
 found_clean key (pair k u ps) t levels c d e =
     first_found (λ x. IsClean x × (depth x ≤ levels)) (bytes_eq key k) u t (lookup key ps) e (c.2, omega arith) (λ h. found_clean key ps t levels c.3 (omega arith) h)
 
@@ -182,13 +183,13 @@ mutual
       let m = some_map value.sequence (views_items (views s) ts) v e in
       let r = items_written s (λ u w levels h k q. form_written s u w levels p h k q) 0 ts m.0 n c (omega arith) m.1 in
       subst (λ x. IsWritten x (suc n)) m.2 (array r.0, ap (result_map array) r.1)
-  form_written (sequence s) t v levels p c d e = absurd cc
+  form_written (sequence s) t v levels p c d e = absurd (no_some e)
   form_written (structure dropped name fs) (document ps) v zero p c d e = absurd (omega arith)
   form_written (structure dropped name fs) (document ps) v (suc n) p c d e =
       let m = some_map (value.structure name) (views_fields fs ps) v e in
       let r = fields_written fs ps m.0 n p.1 c (omega arith) m.1 in
       subst (λ x. IsWritten x (suc n)) m.2 (subst (λ k. IsWritten (value.structure k m.0) (suc n)) (sym p.0) (document r.0, ap (result_map document) r.1))
-  form_written (structure dropped name fs) t v levels p c d e = absurd cc
+  form_written (structure dropped name fs) t v levels p c d e = absurd (no_some e)
   form_written (enumeration no_variants) t v levels p c d e = absurd (nothing_viewed t v e)
   form_written s t v levels p c d e = absurd p
 
@@ -216,7 +217,7 @@ top_written (structure dropped name fs) (document ps) v p o h e =
   where
     by_name : (n : Utf8) → n ≡ [] → (gs : FieldValues) (v : Value) → value.structure n gs ≡ v → (u : Tree) → spell v max_levels ≡ Ok u → spell_document v ≡ Ok u
     by_name n e gs v is u h = subst (λ x. spell x max_levels ≡ Ok u → spell_document x ≡ Ok u) is (subst (λ k. spell (value.structure k gs) max_levels ≡ Ok u → spell_document (value.structure k gs) ≡ Ok u) (sym e) (λ k. k)) h
-top_written (structure dropped name fs) t v p o h e = absurd cc
+top_written (structure dropped name fs) t v p o h e = absurd (no_some e)
 top_written (enumeration no_variants) t v p o h e = absurd (nothing_viewed t v e)
 top_written s t v p o h e = absurd o
 

@@ -13,6 +13,7 @@ use Rattle.bson_laws.specs.Named.{form_of, has}
 use Rattle.bson_infer_laws.specs.Join.{nothing, is_nothing, is_unit, opt, within, join_unlike, join_at, new_fields, join, join_fields}
 use Rattle.bson_infer_laws.specs.Inferred.{shape_of, pair_shapes, joined_shapes, inferred, AllTrees}
 use Rattle.bson_infer_laws.proofs.Above.{by_first}
+use Rattle.bson_kinds.proofs.Apart.{no_some}
 
 abbrev pub IsUsualLeaf : Leaf → Type 0
 IsUsualLeaf BoolLeaf = Unit {0}
@@ -62,7 +63,7 @@ unlike_usual a b p q =
     (cond_usual (is_nothing b) a _ p (cond_usual (is_unit a) (optional b) _ q (cond_usual (is_unit b) (optional a) (leaf Bson) p tt)))
 
 usual_at : (gs : Fields) (n : Utf8) (y : Form) → AreUsual gs → form_of gs n ≡ Some y → IsUsual y
-usual_at no_fields n y p e = absurd cc
+usual_at no_fields n y p e = absurd (no_some e)
 usual_at (field m x gs) n y p e = by_first (bytes_eq m n) x y (form_of gs n) e (λ is same. same_form x y same p.1) (λ e'. usual_at gs n y p.2 e')
   where
     same_form : (x y : Form) → x ≡ y → IsUsual x → IsUsual y

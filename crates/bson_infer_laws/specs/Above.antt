@@ -32,7 +32,7 @@ abbrev pub SequenceAbove : (Form → Type 0) → Form → Type 0
 SequenceAbove P (sequence y) = P y
 SequenceAbove P s = IsNothing s
 
--- the field of a struct above, by that of its name below
+-- A field of the upper struct is above the lower struct's field of that name; where there is none, it has to be an option.
 abbrev pub FieldAbove : (Form → Type 0) → Form → Option Form → Type 0
 FieldAbove P x None = IsOptional x
 FieldAbove P x (Some y) = P y

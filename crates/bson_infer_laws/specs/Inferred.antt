@@ -7,7 +7,8 @@ use Rattle.bson_shape.specs.declared.leaf.Leaf.TheVariants.{Bool, I32, I64, Doub
 use Rattle.bson_infer_laws.specs.Join.{nothing, join}
 
 abbrev mutual
-  -- The form of a value, by its kind: an array is a sequence of what its items have in common, a document a struct of its keys.
+  -- The form of a value, by its kind: an array is a sequence of what its items have in common, a document a struct of its keys. Code without a scope,
+  -- symbols, undefined, the two keys and what is given by its bytes are `bson`.
   pub shape_of : Tree → Form
   shape_of (tree.double bits) = leaf Double
   shape_of (tree.string t) = leaf String

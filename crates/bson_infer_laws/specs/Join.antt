@@ -22,7 +22,7 @@ abbrev pub is_unit : Form → Bool
 is_unit (leaf l) = same_leaf l Unit
 is_unit s = false
 
--- an option of the form, which an option is itself
+-- the form as an option; an option stays as it is
 abbrev pub opt : Form → Form
 opt (optional s) = optional s
 opt s = optional s
@@ -37,7 +37,7 @@ grown l = l
 abbrev pub within : Leaf → Leaf → Bool
 within l m = same_leaf l m || (same_leaf (grown l) m || same_leaf m Bson)
 
--- two forms that are no options and are unlike in their outer form: null makes an option of the other
+-- Two forms, no options, that nothing else joins: `<>` gives way to the other, `unit`, the form of null, makes the other an option, and else the join is `bson`.
 abbrev pub join_unlike : Form → Form → Form
 join_unlike a b =
     if is_nothing a then b

@@ -1,4 +1,4 @@
--- A document in its bytes that adds nothing to a form: it is sound, and the form has all that it has. Source: this library's own join of shapes.
+-- A sound document, in its bytes, that changes nothing where it is joined to a form. Source: this library's own join of shapes.
 use Rattle.std.specs.Prelude.{◌≡◌, ℕ, ◌+◌, true, length, drop, Option, Some, None, Result, Ok, Err}
 use Rattle.bson_kinds.specs.Text.{Utf8, IsPlainName}
 use Rattle.bson_base.specs.Tree.{Tree, document, Pairs, enc}
@@ -18,19 +18,19 @@ use Rattle.bson_infer_run.specs.SoundTest.{is_sound}
 use Rattle.bson_infer_run.specs.SummaryView.{counted_of}
 use Rattle.bson_infer_run.specs.declared.summary.StructSummary.{StructSummary}
 
--- a value without inner values, its leaf and its bytes
+-- a value without inner values, its leaf and how many bytes it takes; `None` says nothing of the value
 abbrev pub IsPlain : Option (Leaf × ℕ) → Result Tree Error → Type 0
 IsPlain None r = Unit {0}
 IsPlain (Some x) (Ok t) = Fits 0 t × (x.1 ≡ length (enc t)) × (shape_of t ≡ leaf x.0)
 IsPlain (Some x) (Err e) = ⊥
 
--- a value, at most so many levels deep, that the form has, and its bytes
+-- a value, at most so many levels deep, whose own form is below this one, and how many bytes it takes; `None` says nothing of the value
 abbrev pub Has : (levels : ℕ) → Form → Option ℕ → Result Tree Error → Type 0
 Has levels s None r = Unit {0}
 Has levels s (Some n) (Ok t) = Fits levels t × (n ≡ length (enc t)) × Above s (shape_of t)
 Has levels s (Some n) (Err e) = ⊥
 
--- the first of the fields has this key, and its form has this value
+-- The first of the fields has this key, its form is above that of the value, and the pair takes so many bytes in a document.
 pub record TakesPair (levels : ℕ) (fs rest : Fields) (n : ℕ) (key : Utf8) (t : Tree) : Type 0 where
   pub form : Form
   pub first : fs ≡ field key form rest

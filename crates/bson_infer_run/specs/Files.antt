@@ -72,7 +72,7 @@ abbrev pub of_cut : Option ℕ → List Bytes → Inferring
 of_cut (Some place) pieces = broken place
 of_cut None pieces = of_pieces pieces
 
--- what the inference from a whole file comes to
+-- what the inference from the bytes of a file comes to
 abbrev pub inferring_of : (file : Bytes) → Inferring
 inferring_of file = of_cut (cut file).broken (cut file).pieces
 

@@ -11,7 +11,7 @@ use Rattle.bson_infer_run.specs.declared.error.InferError.TheVariants.{NotSound,
 abbrev pub usage_line : Utf8
 usage_line = codes "usage: bson_infer\n"
 
--- the line for the document of a number that has a fault
+-- the line for the document with this number, which has a fault
 abbrev pub faulty_line : (number : ℕ) → Error → Utf8
 faulty_line number e = codes "document " ++ (decimal number ++ (codes ": " ++ (printed_fault e ++ newline)))
 
@@ -20,6 +20,6 @@ abbrev pub infer_error_text : InferError → Utf8
 infer_error_text (NotSound number) = codes "document " ++ (decimal number ++ codes ": not sound")
 infer_error_text NoMemory = codes "out of memory"
 
--- the line for the document of a number that is not sound
+-- the line for the document with this number, which is not sound
 abbrev pub unsound_line : (number : ℕ) → Utf8
 unsound_line number = codes "document " ++ (decimal number ++ codes ": not sound\n")

@@ -15,7 +15,7 @@ use Rattle.bson_infer_run.specs.NoWords.{no_words}
 use Rattle.bson_infer_run.specs.declared.status.InferStatus.{InferStatus}
 use Rattle.bson_infer_run.specs.declared.status.InferStatus.TheVariants as statuses
 
--- the status for what an inference comes to, and what must be written to the output and to the output for lines
+-- the status for what an inference comes to
 abbrev pub inferring_status : Inferring → InferStatus
 inferring_status (broken place) = statuses.Broken
 inferring_status (faulty f) = statuses.DocumentRefused
@@ -27,13 +27,14 @@ abbrev pub output_of : Inferring → Bytes
 output_of (found s) = text s ++ newline
 output_of r = []
 
+-- the line on `err`, if there is one
 abbrev pub lines_of : Inferring → Utf8
 lines_of (broken place) = broken_line place
 lines_of (faulty f) = faulty_line f.number f.error
 lines_of (unsound n) = unsound_line n
 lines_of (found s) = []
 
--- What must be written for what the inference from a whole file comes to.
+-- What must be written for what the inference from a file comes to.
 pub record Answers (r : Inferring) (status : InferStatus) (out lines : Bytes) : Type 0 where
   pub ended : status ≡ inferring_status r
   pub writes : out ≡ output_of r

@@ -36,6 +36,7 @@ abbrev pub summary_form : Bool → Kind → Form
 summary_form true k = optional (kind_form k)
 summary_form false k = kind_form k
 
+-- the form is an option
 abbrev pub is_option : Form → Bool
 is_option (optional s) = true
 is_option s = false
@@ -50,7 +51,7 @@ IsAt [] name i = ⊥
 IsAt (k ∷ ks) name zero = bytes_eq name k ≡ true
 IsAt (k ∷ ks) name (suc i) = (bytes_eq name k ≡ false) × IsAt ks name i
 
--- some structs were joined, and each field was in some of them
+-- At least one struct was joined, there are as many names as fields, and no field was in more structs than were joined.
 pub record IsSome (s : StructSummary) : Type 0 where
   pub even : IsEven s
   pub some : 0 < s.count

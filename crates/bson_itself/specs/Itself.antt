@@ -33,8 +33,8 @@ IsTakenSubtype Bson subtype = Unit {0}
 
 abbrev mutual
   -- A tree that is read at the leaf as a value that is written as this tree, with so many levels left: its texts are UTF-8, the keys of each document are different, and at `any` it has
-  -- no extended value, at `bson` no wrapper key and no options out of order. (The keys of arrays are no part of a tree.) It is a clean tree (`IsClean`) within the levels, whose keys may
-  -- begin with `$`, so that nothing in it is given by its bytes.
+  -- no extended value, at `bson` no wrapper key and no options out of order. (The keys of arrays are no part of a tree.) But for keys that begin with `$`, which are allowed here, it is
+  -- clean (`IsClean`), and it is within the levels; nothing in it is given by its bytes.
   pub IsItself : UntypedLeaf → Tree → (levels : ℕ) → Type 0
   IsItself leaf (double b) levels = HasBytes 8 b
   IsItself leaf (string t) levels = is_utf8 t ≡ true

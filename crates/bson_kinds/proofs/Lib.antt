@@ -1,3 +1,4 @@
+pub mod Apart
 pub mod Outcomes
 pub mod Tests
 pub mod Decisions

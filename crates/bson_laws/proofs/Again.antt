@@ -57,6 +57,7 @@ use Rattle.bson_laws.proofs.Settled.{content_settled}
 use Rattle.bson_laws.proofs.Tame.{judged_then}
 use Rattle.bson_laws.proofs.Sizes.{inside_ok, under_ok, named_ok, spell_key_ok, wide_is, binary_is}
 use Rattle.bson_laws.proofs.Free.{free_spelled, free_struct}
+use Rattle.bson_kinds.proofs.Apart.{no_ok, no_some, true_no}
 
 -- what is read from the tree is spelled as the tree
 abbrev pub Comes : (at : Sight) → Form → ℕ → Tree → Type 0
@@ -200,7 +201,7 @@ fits_u16 (pos n) h = grind (arith, ints, h)
 fits_u16 (negsuc n) h = grind (arith, ints, h)
 
 wide_coded : (b : Bool) (n : ℤ) (t : Tree) → FitsSigned w64 n → cond b (Err (here (unsigned_exceeds n))) (Ok (int64 n)) ≡ Ok t → IsCoded t
-wide_coded true n t f e = absurd cc
+wide_coded true n t f e = absurd (no_ok e)
 wide_coded false n t f e = subst IsCoded (ok_is (int64 n) t e) f
 
 number_coded : (type : IntegerType) (n : ℤ) (t : Tree) → in_range type n ≡ true → FitsSigned w64 n → spell_number (written_as type) n ≡ Ok t → IsCoded t
@@ -261,10 +262,10 @@ leaf_key_comes : (at : Sight) (l : Bool) (k : LeafKind) (v : Value) (x : Utf8) �
 leaf_key_comes at l anything (value.str y) x borrows_input g e = (value.str (piece at.texts x), refl, ap value.str (sym (some_is y x e)))
 leaf_key_comes at l raw_values (value.str y) x borrows_input g e = (value.str (piece at.texts x), refl, ap value.str (sym (some_is y x e)))
 leaf_key_comes at l texts (value.str y) x borrows_input g e = let h = borrowed_text at l x (value.str x) borrows_input refl in (h.0, h.1, h.2 ∙ ap value.str (sym (some_is y x e)))
-leaf_key_comes at l characters (value.character c) x borrows_input g e = absurd cc
-leaf_key_comes at l byte_strings (value.bytes bs) x borrows_input g e = absurd cc
-leaf_key_comes at l byte_buffers (value.bytes bs) x borrows_input g e = absurd cc
-leaf_key_comes at l ignored value.unit x borrows_input g e = absurd cc
+leaf_key_comes at l characters (value.character c) x borrows_input g e = absurd (no_some e)
+leaf_key_comes at l byte_strings (value.bytes bs) x borrows_input g e = absurd (no_some e)
+leaf_key_comes at l byte_buffers (value.bytes bs) x borrows_input g e = absurd (no_some e)
+leaf_key_comes at l ignored value.unit x borrows_input g e = absurd (no_some e)
 leaf_key_comes at l k v x borrows_input g e = absurd g
 
 key_comes : (at : Sight) (s : Form) (k : Value) (x : Utf8) → IsGivenKey at s k → key_text k ≡ Some x → KeyComes at (reads_key s) k x
@@ -284,7 +285,7 @@ named_content false n name d c o u q is e h = h e
 
 -- the contents of the variant that has a name
 variant_read : (vs : Variants) (name : Utf8) (c : Content) (u : Node) → content_of vs name ≡ Some c → reads_variant vs name u ≡ reads_content name c u
-variant_read no_variants name c u e = absurd cc
+variant_read no_variants name c u e = absurd (no_some e)
 variant_read (variant n d vs) name c u e = named_content (bytes_eq n name) n name d c (content_of vs name) u (reads_variant vs name u) refl e (variant_read vs name c u)
 
 chosen_shape : (b : Bool) (n name : Utf8) (d c : Content) (o : Option Content) → bytes_eq n name ≡ b → is_utf8 n ≡ true → IsContent d → cond b (Some d) o ≡ Some c → (o ≡ Some c → (is_utf8 name ≡ true) × IsContent c) → (is_utf8 name ≡ true) × IsContent c
@@ -292,7 +293,7 @@ chosen_shape true n name d c o is u p e h = (ap is_utf8 (sym (bytes_same n name 
 chosen_shape false n name d c o is u p e h = h e
 
 variant_shape : (vs : Variants) (name : Utf8) (c : Content) → AreVariants vs → content_of vs name ≡ Some c → (is_utf8 name ≡ true) × IsContent c
-variant_shape no_variants name c p e = absurd cc
+variant_shape no_variants name c p e = absurd (no_some e)
 variant_shape (variant n d vs) name c p e = chosen_shape (bytes_eq n name) n name d c (content_of vs name) refl p.0 p.1 e (variant_shape vs name c p.2)
 
 -- what is read for a variant is spelled as a document of one pair
@@ -321,10 +322,10 @@ leaf_key_whole : (k : LeafKind) (v : Value) (x : Utf8) → IsGivenLeafKey k v �
 leaf_key_whole anything (value.str y) x g e = ap is_utf8 (sym (some_is y x e)) ∙ g.0
 leaf_key_whole raw_values (value.str y) x g e = ap is_utf8 (sym (some_is y x e)) ∙ g.0
 leaf_key_whole texts (value.str y) x g e = ap is_utf8 (sym (some_is y x e)) ∙ g.0
-leaf_key_whole characters (value.character c) x g e = absurd cc
-leaf_key_whole byte_strings (value.bytes bs) x g e = absurd cc
-leaf_key_whole byte_buffers (value.bytes bs) x g e = absurd cc
-leaf_key_whole ignored value.unit x g e = absurd cc
+leaf_key_whole characters (value.character c) x g e = absurd (no_some e)
+leaf_key_whole byte_strings (value.bytes bs) x g e = absurd (no_some e)
+leaf_key_whole byte_buffers (value.bytes bs) x g e = absurd (no_some e)
+leaf_key_whole ignored value.unit x g e = absurd (no_some e)
 leaf_key_whole k v x g e = absurd g
 
 key_name : (at : Sight) (s : Form) (k : Value) (x : Utf8) → IsShape s → IsGivenKey at s k → (key_text k ≡ Some x) × (has_zero x ≡ false) → IsName x
@@ -337,7 +338,7 @@ key_name at s k x p g e = absurd g
 
 built_of : {A B C : Type 0} (r : Reading A) (f : A → Reading B) (g : B → C) (x : B) → (r >>= f) ≡ Ok x → (r >>= λ y. result_map g (f y)) ≡ Ok (g x)
 built_of (Ok y) f g x e = ap (result_map g) e
-built_of (Err d) f g x e = absurd cc
+built_of (Err d) f g x e = absurd (no_ok e)
 
 -- the items are read from the array again
 abbrev ItemsCome : (at : Sight) → (Nodes → Reading MarkedItems) → ℕ → Tree → Type 0
@@ -375,7 +376,7 @@ passed_more at n u name s fs no_pairs h = tt
 passed_more at n u name s fs (pair k t ps) h = (h.0, (λ none. h.1 none.1), passed_more at n u name s fs ps h.2)
 
 not_unlike : (b : Bool) → b ≡ true → b ≡ false → ⊥
-not_unlike true h e = absurd cc
+not_unlike true h e = absurd (true_no e)
 not_unlike false h e = absurd cc
 
 -- nothing is dropped, and nothing is denied

@@ -16,6 +16,7 @@ use Rattle.bson_laws.proofs.PlainForms.{OwnsTexts, FieldsOwnTexts, PartsOwnTexts
 use Rattle.bson_laws.specs.ReadsLeaf.{borrows}
 use Rattle.bson_laws.specs.Taken.{borrow_or_own, owned_under_mark}
 use Rattle.bson_laws.proofs.Judged.{ReadAs}
+use Rattle.bson_kinds.proofs.Apart.{false_no}
 
 -- a leaf that borrows texts takes them from the input, and so one that borrows byte strings
 abbrev pub TextBorrowed : Sight → (is_borrowing : Bool) → Type 0
@@ -171,7 +172,7 @@ pub borrowed_text : (at : Sight) (l : Bool) (t : base.Bytes) (v : Value) → Lea
 borrowed_text at true t v w e = (value.str (piece at.texts t), by_case at.texts w, e) where
   by_case : (b : Bool) → b ≡ true → result_map value.str (borrow_or_own true (piece b t)) ≡ Ok (value.str (piece b t))
   by_case true h = refl
-  by_case false h = absurd cc
+  by_case false h = absurd (false_no h)
 borrowed_text at false t v w e = (value.str (made t), refl, e)
 
 pub owned_same : (u : Bool) (p : Piece) → (owned_under_mark u p).bytes ≡ p.bytes

@@ -34,6 +34,7 @@ use Rattle.bson_laws.proofs.ChangedNodes.{Change, changed, changed_value, change
 use Rattle.bson_laws.proofs.Judged.{ReadAs, both_whole}
 use Rattle.bson_laws.proofs.Borrowed.{owned_same}
 use Rattle.bson_laws.proofs.Sizes.{inside_ok, under_ok}
+use Rattle.bson_kinds.proofs.Apart.{no_ok, some_no}
 
 -- The second change follows the first: a text that is one after the first has the same bytes after the second, and both commute with mending.
 pub record Follows (a b : Change) (is_bare : Bool) : Type 0 where
@@ -50,18 +51,18 @@ pub record Follows (a b : Change) (is_bare : Bool) : Type 0 where
 
 is_text : (c : Bool) → cond c None (Some NotUtf8) ≡ None → c ≡ true
 is_text true e = refl
-is_text false e = absurd cc
+is_text false e = absurd (some_no e)
 
 pub neither : (o p : Option Error) → or_else o p ≡ None → (o ≡ None) × (p ≡ None)
 neither None p e = (refl, e)
-neither (Some x) p e = absurd cc
+neither (Some x) p e = absurd (some_no e)
 
 -- what is neither in the input nor owned is not borrowed
 never : (is_bare : Bool) (p r : Piece) → (is_bare ≡ true → p.in_input ≡ false) → (is_bare ≡ false → ⊥) → borrow p ≡ Ok r → ⊥
 never true p r un owned e = refuses p.in_input (un refl) e where
   refuses : (c : Bool) → c ≡ false → cond c (Ok p) (refused not_borrowed) ≡ Ok r → ⊥
   refuses true u h = absurd cc
-  refuses false u h = absurd cc
+  refuses false u h = absurd (no_ok h)
 never false p r un owned e = owned refl
 
 -- what is not borrowed is owned as any other of the same bytes
@@ -74,7 +75,7 @@ bytes_in p = p.bytes
 
 whole_text : (b : Bool) (t p : Piece) → cond b (Ok t) (refused not_utf8) ≡ Ok p → (b ≡ true) × (t ≡ p)
 whole_text true t p e = (refl, ok_is t p e)
-whole_text false t p e = absurd cc
+whole_text false t p e = absurd (no_ok e)
 
 binary_as : (is_bare l : Bool) (x y p : Piece) → (is_bare ≡ true → x.in_input ≡ false) → (is_bare ≡ false → IsTextOwned l) → x.bytes ≡ y.bytes → (borrow_or_own l x >>= as_text) ≡ Ok p → ReadAs bytes_in (borrow_or_own l y >>= as_text) p.bytes
 binary_as is_bare l x y p un owned is e =
@@ -183,14 +184,14 @@ module _ (a b : Change) (is_bare : Bool) (f : Follows a b is_bare) where
     value_whole x w = w
 
   level_after : (n k : Node) → with_level (before n) ≡ Ok k → (with_level (after n) ≡ Ok (after n)) × (before n ≡ k)
-  level_after (too_deep j) k e = absurd cc
+  level_after (too_deep j) k e = absurd (no_ok e)
   level_after n k e = (refl, ok_is (before n) k e)
 
   judged_after : (n k : Node) → judged (before n) ≡ Ok k → IsWhole n × (judged (after n) ≡ Ok (after n)) × (before n ≡ k)
   judged_after n k e = by_fault (fault (before n)) refl e where
     by_fault : (o : Option Error) → fault (before n) ≡ o → faultless o (before n) ≡ Ok k → IsWhole n × (judged (after n) ≡ Ok (after n)) × (before n ≡ k)
     by_fault None is h = let l = level_after n k h in (is, ap (λ o. faultless o (after n)) (whole_after n is) ∙ l.0, l.1)
-    by_fault (Some x) is h = absurd cc
+    by_fault (Some x) is h = absurd (no_ok h)
 
   -- what is read from the judged value is read from the value, which is judged after the second change too
   pub read_after : {A : Type 0} (n : Node) (read : Node → Reading A) (x : A) → (judged (before n) >>= read) ≡ Ok x → IsWhole n × (judged (after n) ≡ Ok (after n)) × (read (before n) ≡ Ok x)
@@ -219,7 +220,7 @@ module _ (a b : Change) (is_bare : Bool) (f : Follows a b is_bare) where
 
     pass_after : (place : ℕ → Piece → Segment) (i : ℕ) (ns : Nodes) → pass_nodes place i (nodes_before ns) ≡ Ok tt → pass_nodes place i (nodes_after ns) ≡ Ok tt
     pass_after place i ended e = refl
-    pass_after place i (faulty g) e = absurd cc
+    pass_after place i (faulty g) e = absurd (no_ok e)
     pass_after place i (then_node key n ns) e =
         let r = judged (before n) >>= λ _. passes (before n) in
         let first = piece (a.borrows_key key) key.bytes in
@@ -250,39 +251,39 @@ module _ (a b : Change) (is_bare : Bool) (f : Follows a b is_bare) where
       let h = own_as is_bare l (a.text t) (b.text t) p (λ o. f.no_text o t) owned (sym (text_same t w)) e in (made (b.text t).bytes, h.0, sym h.1)
   text_after l (bytes u x) p owned w e =
       binary_as is_bare l (binary_before u x) (binary_after u x) p (λ o. owned_unlent (a.marks u x) (piece (a.borrows_bytes x) x.bytes) (f.no_bytes o x)) owned (binary_same u x) e
-  text_after l n p owned w e = absurd cc
+  text_after l n p owned w e = absurd (no_ok e)
 
   bytes_after : (n : Node) (p : Piece) → (is_bare ≡ false → ⊥) → bytes_of (before n) ≡ Ok p → ⊥
   bytes_after (string t) p owned e = never is_bare (a.text t) p (λ o. f.no_text o t) owned e
   bytes_after (bytes u x) p owned e = never is_bare (piece (a.borrows_bytes x) x.bytes) p (λ o. f.no_bytes o x) owned e
   bytes_after (extended (object_id id) ns) p owned e = never is_bare (piece (a.borrows_bytes id) id.bytes) p (λ o. f.no_bytes o id) owned e
-  bytes_after n p owned e = absurd cc
+  bytes_after n p owned e = absurd (no_ok e)
 
   boolean_after : (n : Node) (x : Bool) → boolean_of (before n) ≡ Ok x → boolean_of (after n) ≡ Ok x
   boolean_after (boolean c) x e = e
-  boolean_after n x e = absurd cc
+  boolean_after n x e = absurd (no_ok e)
 
   integer_after : (n : Node) (z : ℤ) → integer_of (before n) ≡ Ok z → integer_of (after n) ≡ Ok z
   integer_after (int32 c) z e = e
   integer_after (int64 c) z e = e
-  integer_after n z e = absurd cc
+  integer_after n z e = absurd (no_ok e)
 
   double_after : (n : Node) (x : Bytes) → double_of (before n) ≡ Ok x → double_of (after n) ≡ Ok x
   double_after (double c) x e = e
-  double_after n x e = absurd cc
+  double_after n x e = absurd (no_ok e)
 
   null_after : (n : Node) (x : Unit {0}) → null_of (before n) ≡ Ok x → null_of (after n) ≡ Ok x
   null_after null x e = e
-  null_after n x e = absurd cc
+  null_after n x e = absurd (no_ok e)
 
   document_after : (n : Node) (ns : Nodes) → document_of (before n) ≡ Ok ns → (ms : Nodes) × (document_of (after n) ≡ Ok (nodes_after ms)) × (nodes_before ms ≡ ns)
   document_after (document slice ms) ns e = (ms, refl, ok_is (nodes_before ms) ns e)
   document_after (extended x ms) ns e = (ms, refl, ok_is (nodes_before ms) ns e)
-  document_after n ns e = absurd cc
+  document_after n ns e = absurd (no_ok e)
 
   array_after : (n : Node) (ns : Nodes) → array_of (before n) ≡ Ok ns → (ms : Nodes) × (array_of (after n) ≡ Ok (nodes_after ms)) × (nodes_before ms ≡ ns)
   array_after (array slice ms) ns e = (ms, refl, ok_is (nodes_before ms) ns e)
-  array_after n ns e = absurd cc
+  array_after n ns e = absurd (no_ok e)
 
   byte_after : (n : Node) (x : ℕ) → (judged (before n) >>= integer_of >>= as_byte) ≡ Ok x → (judged (after n) >>= integer_of >>= as_byte) ≡ Ok x
   byte_after n x e =
@@ -292,7 +293,7 @@ module _ (a b : Change) (is_bare : Bool) (f : Follows a b is_bare) where
 
   bytes_read_after : (i : ℕ) (ns : Nodes) (xs : Bytes) → reads_bytes i (nodes_before ns) ≡ Ok xs → reads_bytes i (nodes_after ns) ≡ Ok xs
   bytes_read_after i ended xs e = e
-  bytes_read_after i (faulty g) xs e = absurd cc
+  bytes_read_after i (faulty g) xs e = absurd (no_ok e)
   bytes_read_after i (then_node key n ns) xs e =
       let r = judged (before n) >>= integer_of >>= as_byte in
       let d = bind_ok (under_index i r) (λ y. result_map (λ x. y ∷ x) (reads_bytes (suc i) (nodes_before ns))) xs e in
@@ -305,21 +306,21 @@ module _ (a b : Change) (is_bare : Bool) (f : Follows a b is_bare) where
   buffer_after (string t) xs w e = ap Ok (text_same t w) ∙ e
   buffer_after (bytes u x) xs w e = e
   buffer_after (array slice ns) xs w e = bytes_read_after 0 ns xs e
-  buffer_after n xs w e = absurd cc
+  buffer_after n xs w e = absurd (no_ok e)
 
   character_after : (n : Node) (m : Marked) → IsWhole n → character_of (before n) ≡ Ok m → character_of (after n) ≡ Ok m
   character_after (string t) m w e = ap (λ x. read_character (one_character (chars x))) (text_same t w) ∙ e
-  character_after n m w e = absurd cc
+  character_after n m w e = absurd (no_ok e)
 
   -- ---- values in their bytes
 
   raw_document_after : (n : Node) (p : Piece) → raw_document_of (before n) ≡ Ok p → raw_document_of (after n) ≡ Ok p
   raw_document_after (document slice ns) p e = f.slices slice p e
-  raw_document_after n p e = absurd cc
+  raw_document_after n p e = absurd (no_ok e)
 
   raw_array_after : (n : Node) (p : Piece) → raw_array_of (before n) ≡ Ok p → raw_array_of (after n) ≡ Ok p
   raw_array_after (array slice ns) p e = f.slices slice p e
-  raw_array_after n p e = absurd cc
+  raw_array_after n p e = absurd (no_ok e)
 
   -- the texts of the structs that a value is read as
   raw_extended_after : (x : Extended) (m : Marked) → extended_fault (changed_value a x) ≡ None → raw_extended (changed_value a x) ≡ Ok m → ReadAs contents (raw_extended (changed_value b x)) (contents m)
@@ -377,7 +378,7 @@ module _ (a b : Change) (is_bare : Bool) (f : Follows a b is_bare) where
 
     any_items_after : (i : ℕ) (ns : Nodes) (vs : MarkedItems) → any_items i (nodes_before ns) ≡ Ok vs → ReadAs item_contents (any_items i (nodes_after ns)) (item_contents vs)
     any_items_after i ended vs e = (vs, e, refl)
-    any_items_after i (faulty g) vs e = absurd cc
+    any_items_after i (faulty g) vs e = absurd (no_ok e)
     any_items_after i (then_node key n ns) vs e =
         let r = judged (before n) >>= λ _. read_any (before n) in
         let d = bind_ok (under_index i r) (λ v. result_map (item v) (any_items (suc i) (nodes_before ns))) vs e in
@@ -394,7 +395,7 @@ module _ (a b : Change) (is_bare : Bool) (f : Follows a b is_bare) where
 
     any_entries_after : (ns : Nodes) (es ds out : MarkedEntries) → entry_contents es ≡ entry_contents ds → any_entries (nodes_before ns) es ≡ Ok out → ReadAs entry_contents (any_entries (nodes_after ns) ds) (entry_contents out)
     any_entries_after ended es ds out h e = (ds, refl, sym h ∙ ap entry_contents (ok_is es out e))
-    any_entries_after (faulty g) es ds out h e = absurd cc
+    any_entries_after (faulty g) es ds out h e = absurd (no_ok e)
     any_entries_after (then_node key n ns) es ds out h e =
         let r = judged (before n) >>= λ _. read_any (before n) in
         let k = value.str (piece (a.borrows_key key) key.bytes) in
@@ -426,12 +427,12 @@ module _ (a b : Change) (is_bare : Bool) (f : Follows a b is_bare) where
       let r = map_ok value.bytes (borrow (piece (a.borrows_key key) key.bytes)) m e in absurd (never is_bare (piece (a.borrows_key key) key.bytes) r.0 (λ o. f.no_key o key) owned r.1)
   key_leaf_after l byte_buffers key m owned e = (value.bytes (made key.bytes), refl, ap contents (ok_is (value.bytes (made key.bytes)) m e))
   key_leaf_after l raw_values key m owned e = (value.str (piece (b.borrows_key key) key.bytes), refl, ap contents (ok_is (value.str (piece (a.borrows_key key) key.bytes)) m e))
-  key_leaf_after l k key m owned e = absurd cc
+  key_leaf_after l k key m owned e = absurd (no_ok e)
 
   key_after : (s : Form) (key : Piece) (m : Marked) → (is_bare ≡ false → IsOwned s) → reads_key s (piece (a.borrows_key key) key.bytes) ≡ Ok m → ReadAs contents (reads_key s (piece (b.borrows_key key) key.bytes)) (contents m)
   key_after (leaf l) key m owned e = key_leaf_after (borrows l) (leaf_kind l) key m owned e
   key_after (enumeration vs) key m owned e = (m, e, refl)
-  key_after s key m owned e = absurd cc
+  key_after s key m owned e = absurd (no_ok e)
 
   -- what is read after the first change is read after the second
   abbrev pub EachAfter : (Node → Reading Marked) → Type 0
@@ -439,7 +440,7 @@ module _ (a b : Change) (is_bare : Bool) (f : Follows a b is_bare) where
 
   items_after : (read : Node → Reading Marked) → EachAfter read → (i : ℕ) (ns : Nodes) (vs : MarkedItems) → reads_items read i (nodes_before ns) ≡ Ok vs → ReadAs item_contents (reads_items read i (nodes_after ns)) (item_contents vs)
   items_after read each i ended vs e = (vs, e, refl)
-  items_after read each i (faulty g) vs e = absurd cc
+  items_after read each i (faulty g) vs e = absurd (no_ok e)
   items_after read each i (then_node key n ns) vs e =
       let d = bind_ok (under_index i (read (before n))) (λ v. result_map (item v) (reads_items read (suc i) (nodes_before ns))) vs e in
       let m = map_ok (item d.0) (reads_items read (suc i) (nodes_before ns)) vs d.2 in
@@ -453,7 +454,7 @@ module _ (a b : Change) (is_bare : Bool) (f : Follows a b is_bare) where
   entries_after : (key : Form) (read : Node → Reading Marked) → (is_bare ≡ false → IsOwned key) → EachAfter read → (ns : Nodes) (es ds out : MarkedEntries) → entry_contents es ≡ entry_contents ds
       → reads_entries (reads_key key) read (nodes_before ns) es ≡ Ok out → ReadAs entry_contents (reads_entries (reads_key key) read (nodes_after ns) ds) (entry_contents out)
   entries_after key read owned each ended es ds out h e = (ds, refl, sym h ∙ ap entry_contents (ok_is es out e))
-  entries_after key read owned each (faulty g) es ds out h e = absurd cc
+  entries_after key read owned each (faulty g) es ds out h e = absurd (no_ok e)
   entries_after key read owned each (then_node k n ns) es ds out h e =
       let keys = reads_key key in
       let c = bind_ok (keys (piece (a.borrows_key k) k.bytes)) (λ x. under k.bytes (read (before n)) >>= λ v. reads_entries keys read (nodes_before ns) (put_entry x v es)) out e in
@@ -471,8 +472,8 @@ module _ (a b : Change) (is_bare : Bool) (f : Follows a b is_bare) where
   -- the value of the next element, and those behind it
   next_after : {A B : Type 0} (g : A → B) (i : ℕ) (read : Node → Reading Marked) (others : Marked → Nodes → Reading A) (ns : Nodes) (x : A) → EachAfter read
       → ((v w : Marked) (ms : Nodes) → contents w ≡ contents v → others v (nodes_before ms) ≡ Ok x → ReadAs g (others w (nodes_after ms)) (g x)) → reads_next i read others (nodes_before ns) ≡ Ok x → ReadAs g (reads_next i read others (nodes_after ns)) (g x)
-  next_after g i read others ended x each rest e = absurd cc
-  next_after g i read others (faulty h) x each rest e = absurd cc
+  next_after g i read others ended x each rest e = absurd (no_ok e)
+  next_after g i read others (faulty h) x each rest e = absurd (no_ok e)
   next_after g i read others (then_node key n ns) x each rest e =
       let d = bind_ok (under_index i (read (before n))) (λ v. others v (nodes_before ns)) x e in
       let first = each n d.0 (inside_ok (at_index i) (read (before n)) d.0 d.1) in
@@ -507,11 +508,11 @@ module _ (a b : Change) (is_bare : Bool) (f : Follows a b is_bare) where
         subst (λ z. AreAlike z to) (ok_is (record x { value = Some d.0 }) out d.2) (record { name = h.name; missing = h.missing; each = h.each; value = ap Some (sym first.2) }),
       )
   slot_after key n x y out None (Some w) h is e = absurd cc
-  slot_after key n x y out (Some v) p h is e = absurd cc
+  slot_after key n x y out (Some v) p h is e = absurd (no_ok e)
 
   unknown_after : (u : UnknownFields) (key : Utf8) (n : Node) → unknown u key (before n) ≡ Ok tt → unknown u key (after n) ≡ Ok tt
   unknown_after dropped key n e = ap (under key) (ignores_after n (under_ok key (ignores (before n)) tt e))
-  unknown_after denied key n e = absurd cc
+  unknown_after denied key n e = absurd (no_ok e)
 
   put_after : (u : UnknownFields) (key : Utf8) (n : Node) (xs ys out : Slots) → AllAlike xs ys → put_at u key (before n) xs ≡ Ok out → SlotsAlike (put_at u key (after n) ys) out
   put_after u key n [] [] out h e =
@@ -536,7 +537,7 @@ module _ (a b : Change) (is_bare : Bool) (f : Follows a b is_bare) where
 
   fill_after : (u : UnknownFields) (ns : Nodes) (xs ys out : Slots) → AllAlike xs ys → fill u (nodes_before ns) xs ≡ Ok out → SlotsAlike (fill u (nodes_after ns) ys) out
   fill_after u ended xs ys out h e = (ys, refl, subst (λ zs. AllAlike zs ys) (ok_is xs out e) h)
-  fill_after u (faulty g) xs ys out h e = absurd cc
+  fill_after u (faulty g) xs ys out h e = absurd (no_ok e)
   fill_after u (then_node key n ns) xs ys out h e =
       let d = bind_ok (put_at u key.bytes (before n) xs) (fill u (nodes_before ns)) out e in
       let first = put_after u key.bytes n xs ys d.0 h d.1 in
@@ -561,8 +562,8 @@ module _ (a b : Change) (is_bare : Bool) (f : Follows a b is_bare) where
   places_after [] [] i ns vs h e = (vs, e, refl)
   places_after [] (y ∷ ys) i ns vs h e = absurd h
   places_after (x ∷ xs) [] i ns vs h e = absurd h
-  places_after (x ∷ xs) (y ∷ ys) i ended vs h e = absurd cc
-  places_after (x ∷ xs) (y ∷ ys) i (faulty g) vs h e = absurd cc
+  places_after (x ∷ xs) (y ∷ ys) i ended vs h e = absurd (no_ok e)
+  places_after (x ∷ xs) (y ∷ ys) i (faulty g) vs h e = absurd (no_ok e)
   places_after (x ∷ xs) (y ∷ ys) i (then_node key n ns) vs h e =
       let d = bind_ok (under_index i (x.read (before n))) (λ v. result_map (field_value (made x.name) v) (reads_places (suc i) xs (nodes_before ns))) vs e in
       let m = map_ok (field_value (made x.name) d.0) (reads_places (suc i) xs (nodes_before ns)) vs d.2 in
@@ -582,10 +583,10 @@ module _ (a b : Change) (is_bare : Bool) (f : Follows a b is_bare) where
 
   structure_after : (u : UnknownFields) (xs ys : Slots) (n : Node) (vs : MarkedFields) → AllAlike xs ys → read_structure u xs (before n) ≡ Ok vs → ReadAs field_contents (read_structure u ys (after n)) (field_contents vs)
   structure_after dropped xs ys (array slice ns) vs h e = places_after xs ys 0 ns vs h e
-  structure_after denied xs ys (array slice ns) vs h e = absurd cc
+  structure_after denied xs ys (array slice ns) vs h e = absurd (no_ok e)
   structure_after u xs ys (document slice ns) vs h e = keyed_after u xs ys ns vs h e
   structure_after u xs ys (extended x ns) vs h e = keyed_after u xs ys ns vs h e
-  structure_after u xs ys n vs h e = absurd cc
+  structure_after u xs ys n vs h e = absurd (no_ok e)
 
   -- ---- options, arrays and documents
 
@@ -656,7 +657,7 @@ module _ (a b : Change) (is_bare : Bool) (f : Follows a b is_bare) where
     enum_after vs each (string t) m w e = (m, ap (λ x. unit_of x (content_of vs x)) (text_same t w) ∙ e, refl)
     enum_after vs each (document slice (then_node key n ns)) m w e = each key.bytes n m e
     enum_after vs each (extended x (then_node key n ns)) m w e = each key.bytes n m e
-    enum_after vs each n m w e = absurd cc
+    enum_after vs each n m w e = absurd (no_ok e)
 
     built_after : (build : MarkedFields → Marked) (make : value.FieldValues → Value) (u : UnknownFields) (fs : Fields) (n : Node) (m : Marked) → ((x : MarkedFields) → contents (build x) ≡ make (field_contents x))
         → ((vs : MarkedFields) → read_struct u fs (before n) ≡ Ok vs → ReadAs field_contents (read_struct u fs (after n)) (field_contents vs))
@@ -729,13 +730,13 @@ module _ (a b : Change) (is_bare : Bool) (f : Follows a b is_bare) where
           (item w h.0, ap (result_map (item w)) h.1, (λ j. item (is j) (h.2 j)) ∙ ap item_contents r.2)) e
 
       reads_variant_after : (vs : Variants) → (is_bare ≡ false → AreVariantsOwned vs) → (key : Utf8) → EachAfter (reads_variant vs key)
-      reads_variant_after no_variants owned key n m e = absurd cc
+      reads_variant_after no_variants owned key n m e = absurd (no_ok e)
       reads_variant_after (variant name c vs) owned key n m e =
           chosen_as (bytes_eq name key) (reads_content name c (before n)) (reads_variant vs key (before n)) (reads_content name c (after n)) (reads_variant vs key (after n)) m
           (λ q. reads_content_after name c (λ o. (owned o).0) n m q) (λ q. reads_variant_after vs (λ o. (owned o).1) key n m q) e
 
       reads_content_after : (name : Utf8) (c : Content) → (is_bare ≡ false → IsContentOwned c) → EachAfter (reads_content name c)
-      reads_content_after name unit_content owned n m e = absurd cc
+      reads_content_after name unit_content owned n m e = absurd (no_ok e)
       reads_content_after name (newtype_content s) owned n m e =
           under_as name (result_map (value.newtype_variant (made name)) (reads s (before n))) (result_map (value.newtype_variant (made name)) (reads s (after n))) m
           (λ q.

@@ -42,6 +42,7 @@ use Rattle.bson_laws.proofs.Changed.{Follows, neither, read_after, then_after, t
 use Rattle.bson_laws.proofs.ChangedNodes.{Change, changed, changed_value, changed_nodes, bare, as_it_is, changed_same, mended_bare}
 use Rattle.bson_laws.proofs.Judged.{ReadAs}
 use Rattle.bson_laws.proofs.Sizes.{inside_ok, under_ok}
+use Rattle.bson_kinds.proofs.Apart.{no_ok}
 
 module _ (a b : Change) (is_bare : Bool) (f : Follows a b is_bare) where
   abbrev before : Node → Node
@@ -89,7 +90,7 @@ module _ (a b : Change) (is_bare : Bool) (f : Follows a b is_bare) where
     by_kind : (m : Node) → IsWhole m → oid_body (before m) ≡ Ok o → oid_body (after m) ≡ Ok o
     by_kind (node.string t) w q = ap (λ x. Ok (id_of_text x)) (same t w) ∙ q
     by_kind (node.bytes u x) w q = q
-    by_kind m w q = absurd cc
+    by_kind m w q = absurd (no_ok q)
 
   date_after : IsAfter (judging date_body)
   date_after n o e = let j = read_judged n date_body o e in ap (λ r. r >>= date_body) j.1 ∙ by_kind n j.0 j.2 where
@@ -140,11 +141,11 @@ module _ (a b : Change) (is_bare : Bool) (f : Follows a b is_bare) where
   scope_code key true n ps t e =
       let m = map_ok (λ x. tree.javascript_code_with_scope x ps) (under key (text_at (before n))) t e in
       ap (λ r. result_map (λ x. tree.javascript_code_with_scope x ps) (under key r)) (text_at_after n m.0 (under_ok key (text_at (before n)) m.0 m.1)) ∙ ap Ok m.2
-  scope_code key false n ps t e = absurd cc
+  scope_code key false n ps t e = absurd (no_ok e)
 
   after_scope_after : (ps : Pairs) (ns : Nodes) (t : Tree) → after_scope ps (nodes_before ns) ≡ Ok t → after_scope ps (nodes_after ns) ≡ Ok t
-  after_scope_after ps ended t e = absurd cc
-  after_scope_after ps (faulty g) t e = absurd cc
+  after_scope_after ps ended t e = absurd (no_ok e)
+  after_scope_after ps (faulty g) t e = absurd (no_ok e)
   after_scope_after ps (then_node key n ns) t e = scope_code key.bytes (bytes_eq key.bytes code_key) n ps t e
 
   -- ---- trees
@@ -186,7 +187,7 @@ module _ (a b : Change) (is_bare : Bool) (f : Follows a b is_bare) where
       let m = map_ok (tree.javascript_code_with_scope x) (under key (value_of (before n) >>= pairs_in)) t e in
       let d = bind_ok (value_of (before n)) pairs_in m.0 (under_ok key (value_of (before n) >>= pairs_in) m.0 m.1) in
       ap (λ r. result_map (tree.javascript_code_with_scope x) (under key (r >>= pairs_in))) (each d.0 d.1) ∙ ap (λ r. result_map (tree.javascript_code_with_scope x) (under key r)) d.2 ∙ ap Ok m.2
-  code_scope false key x n t each e = absurd cc
+  code_scope false key x n t each e = absurd (no_ok e)
 
   mutual
     pub as_tree_after : (n : Node) (t : Tree) → IsWhole n → as_tree (before n) ≡ Ok t → as_tree (after n) ≡ Ok t
@@ -216,7 +217,7 @@ module _ (a b : Change) (is_bare : Bool) (f : Follows a b is_bare) where
 
     items_after : (i : ℕ) (ns : Nodes) (ts : Trees) → array_trees i (nodes_before ns) ≡ Ok ts → array_trees i (nodes_after ns) ≡ Ok ts
     items_after i ended ts e = e
-    items_after i (faulty g) ts e = absurd cc
+    items_after i (faulty g) ts e = absurd (no_ok e)
     items_after i (then_node key n ns) ts e =
         let d = bind_ok (under_index i (value_of (before n))) (λ t. result_map (tree.tree t) (array_trees (suc i) (nodes_before ns))) ts e in
         let m = map_ok (tree.tree d.0) (array_trees (suc i) (nodes_before ns)) ts d.2 in
@@ -226,14 +227,14 @@ module _ (a b : Change) (is_bare : Bool) (f : Follows a b is_bare) where
 
     pairs_after : (ns : Nodes) (ps : Pairs) (t : Tree) → document_tree (nodes_before ns) ps ≡ Ok t → document_tree (nodes_after ns) ps ≡ Ok t
     pairs_after ended ps t e = e
-    pairs_after (faulty g) ps t e = absurd cc
+    pairs_after (faulty g) ps t e = absurd (no_ok e)
     pairs_after (then_node key n ns) ps t e =
         keyed_after (of_key key.bytes) key.bytes n (λ u. document_tree (nodes_before ns) (put key.bytes u ps)) (λ u. document_tree (nodes_after ns) (put key.bytes u ps)) (λ x. after_code x (nodes_before ns)) (λ x. after_code x (nodes_after ns)) ns t
         (value_after n (λ u v q. as_tree_after n u v q)) (λ u q. pairs_after ns (put key.bytes u ps) t q) (λ x q. code_after x ns t q) e
 
     code_after : (x : Utf8) (ns : Nodes) (t : Tree) → after_code x (nodes_before ns) ≡ Ok t → after_code x (nodes_after ns) ≡ Ok t
     code_after x ended t e = e
-    code_after x (faulty g) t e = absurd cc
+    code_after x (faulty g) t e = absurd (no_ok e)
     code_after x (then_node key n ns) t e = code_scope (bytes_eq key.bytes scope_key) key.bytes x n t (value_after n (λ u v q. as_tree_after n u v q)) e
 
   -- ---- at leaves and shapes
@@ -244,14 +245,14 @@ module _ (a b : Change) (is_bare : Bool) (f : Follows a b is_bare) where
   id_at_after (node.bytes u x) t w e = e
   id_at_after (node.document slice ns) t w e =
       let d = bind_ok (as_tree (before (node.document slice ns))) (tree_of_kind kinds.ObjectId) t e in ap (λ r. r >>= tree_of_kind kinds.ObjectId) (as_tree_after (node.document slice ns) d.0 w d.1) ∙ d.2
-  id_at_after n t w e = absurd cc
+  id_at_after n t w e = absurd (no_ok e)
 
   uuid_at_after : (n : Node) (x : Bytes) → IsWhole n → uuid_at (before n) ≡ Ok x → uuid_at (after n) ≡ Ok x
   uuid_at_after (node.extended (node.binary s y) ns) x w e = e
   uuid_at_after (node.string p) x w e = ap (λ t. or_bad_uuid (parsed t)) (same p w) ∙ e
   uuid_at_after (node.document slice ns) x w e =
       let d = bind_ok (as_tree (before (node.document slice ns))) uuid_in x e in ap (λ r. r >>= uuid_in) (as_tree_after (node.document slice ns) d.0 w d.1) ∙ d.2
-  uuid_at_after n x w e = absurd cc
+  uuid_at_after n x w e = absurd (no_ok e)
 
   extended_after : (k : ExtendedLeaf) (n : Node) (m : Marked) → IsWhole n → read_extended k (before n) ≡ Ok m → read_extended k (after n) ≡ Ok m
   extended_after object_ids n m w e = let r = map_ok (datum made) (object_id_at (before n)) m e in ap (result_map (datum made)) (id_at_after n r.0 w r.1) ∙ ap Ok r.2

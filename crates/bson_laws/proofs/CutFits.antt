@@ -11,6 +11,7 @@ use Rattle.bson_laws.specs.Fits.{FitsKey, Fits, ItemsFit, PartsFit, EntriesFit, 
 use Rattle.bson_laws.specs.Variants.{content_of}
 use Rattle.bson_laws.proofs.Cut.{cut, cut_fields, cut_parts, cut_variants, cut_content}
 use Rattle.bson_laws.proofs.Fitting.{fits_lossy, lossy_fits, fits_body, body_fits}
+use Rattle.bson_kinds.proofs.Apart.{no_some}
 
 -- ---- the variants of a cut form
 
@@ -26,7 +27,7 @@ kept_is : (vs : Variants) (name : Utf8) (d : ℕ) (c : Content) → content_of v
 kept_is vs name d c e = content_kept vs name d ∙ ap (option_map (λ c. cut_content c d)) e
 
 unit_from : (o : Option Content) (d : ℕ) → option_map (λ c. cut_content c d) o ≡ Some unit_content → o ≡ Some unit_content
-unit_from None d e = absurd cc
+unit_from None d e = absurd (no_some e)
 unit_from (Some unit_content) d e = refl
 unit_from (Some (newtype_content s)) zero e = absurd cc
 unit_from (Some (newtype_content s)) (suc d) e = absurd cc
@@ -45,17 +46,17 @@ struct_is : (fs gs : Fields) → Some (struct_content fs) ≡ Some (struct_conte
 struct_is fs gs e = cc
 
 newtype_from : (o : Option Content) (d : ℕ) (r : Form) → option_map (λ c. cut_content c (suc d)) o ≡ Some (newtype_content r) → (s : Form) × (o ≡ Some (newtype_content s)) × (cut s d ≡ r)
-newtype_from None d r e = absurd cc
+newtype_from None d r e = absurd (no_some e)
 newtype_from (Some (newtype_content s)) d r e = (s, refl, newtype_is (cut s d) r e)
 newtype_from (Some c) d r e = absurd cc
 
 tuple_from : (o : Option Content) (d : ℕ) (qs : Parts) → option_map (λ c. cut_content c (suc d)) o ≡ Some (tuple_content qs) → (ps : Parts) × (o ≡ Some (tuple_content ps)) × (cut_parts ps d ≡ qs)
-tuple_from None d r e = absurd cc
+tuple_from None d r e = absurd (no_some e)
 tuple_from (Some (tuple_content ps)) d r e = (ps, refl, tuple_is (cut_parts ps d) r e)
 tuple_from (Some c) d r e = absurd cc
 
 struct_from : (o : Option Content) (d : ℕ) (gs : Fields) → option_map (λ c. cut_content c (suc d)) o ≡ Some (struct_content gs) → (fs : Fields) × (o ≡ Some (struct_content fs)) × (cut_fields fs d ≡ gs)
-struct_from None d r e = absurd cc
+struct_from None d r e = absurd (no_some e)
 struct_from (Some (struct_content fs)) d r e = (fs, refl, struct_is (cut_fields fs d) r e)
 struct_from (Some c) d r e = absurd cc
 

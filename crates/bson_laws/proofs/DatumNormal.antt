@@ -19,6 +19,7 @@ use Rattle.bson_laws.proofs.DatumSpelled.{in_range_sizes, accepted}
 use Rattle.bson_laws.proofs.ParsedSizes.{sorted_text, sorted_twice}
 use Rattle.bson_laws.proofs.Sizes.{binary_is, expression_spelled}
 use Rattle.bson_laws.proofs.Spelled.{tree_is}
+use Rattle.bson_kinds.proofs.Apart.{no_some}
 
 -- ---- kinds
 
@@ -88,7 +89,7 @@ mutual
 
 whole_ok : (r : Writing Tree) (u : Tree) → result_ok r ≡ Some u → r ≡ Ok u
 whole_ok (Ok t) u e = ap Ok (some_is t u e)
-whole_ok (Err f) u e = absurd cc
+whole_ok (Err f) u e = absurd (no_some e)
 
 -- what a reserved struct is accepted as is what it means, as it is written
 taken : (t u : Tree) (o : Option Tree) → o ≡ Some t → unwrapped_means o ≡ Some u → spell_whole t ≡ Ok u
@@ -98,7 +99,7 @@ taken_whole : (t u : Tree) (o : Option Tree) → o ≡ Some t → spell_whole t 
 taken_whole t u o is whole e = sym (ok_is t u (sym whole ∙ taken t u o is e))
 
 wide_meant : (b : Bool) (n : _) (u : Tree) → cond b None (Some (tree.int64 n)) ≡ Some u → u ≡ tree.int64 n
-wide_meant true n u e = absurd cc
+wide_meant true n u e = absurd (no_some e)
 wide_meant false n u e = sym (tree_is (tree.int64 n) u e)
 
 mutual

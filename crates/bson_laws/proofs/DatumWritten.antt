@@ -17,11 +17,12 @@ use Rattle.bson_laws.specs.InRange.{IsInRange, ArePairsInRange, AreTreesInRange}
 use Rattle.bson_laws.specs.Spell.{enclosed_at, spell_key, spell_as, spell_items_as, spell_entries_as}
 use Rattle.bson_laws.proofs.DatumSpelled.{in_range_sizes, accepted}
 use Rattle.bson_laws.proofs.Sizes.{inside_ok, under_ok, spell_key_ok, enclosed_ok, wide_is, expression_spelled}
+use Rattle.bson_kinds.proofs.Apart.{no_ok}
 
 -- ---- binaries
 
 short_by : (b : Bool) (f : Refusal WriteFault) (m n : ℕ) (t u : Tree) → ltb m n ≡ b → cond b (Err f) (Ok t) ≡ Ok u → (u ≡ t) × (n ≤ m)
-short_by true f m n t u is e = absurd cc
+short_by true f m n t u is e = absurd (no_ok e)
 short_by false f m n t u is e = (sym (ok_is t u e), grind (arith, nat_tests, is))
 
 binary_short : (subtype : ℕ) (b : Bytes) (u : Tree) → spell_binary subtype b ≡ Ok u → (u ≡ tree.binary subtype b) × (length b ≤ max_binary subtype)

@@ -41,6 +41,7 @@ use Rattle.bson_laws.proofs.Sizes.{under_ok}
 use Rattle.bson_laws.proofs.Free.{free_kind}
 use Rattle.bson_laws.proofs.Tame.{IsTame, after_judged, judged_refused}
 use Rattle.bson_laws.proofs.TameBytes.{seen_tame}
+use Rattle.bson_kinds.proofs.Apart.{no_ok}
 
 -- the value of a document's bytes: a document, or bytes that are none
 abbrev pub IsTop : Node → Type 0
@@ -54,27 +55,27 @@ IsMapping v = kind_of (contents v) ≡ EmbeddedDocument
 
 leaf_top : (l : Bool) (k : LeafKind) (n : Node) (v : Marked) → IsTop n → KeepsDocumentLeaf k → read_leaf l k n ≡ Ok v → IsMapping v
 leaf_top l anything (document slice ns) v t kept e = let m = map_ok value.map (any_entries ns no_entries) v e in subst IsMapping m.2 refl
-leaf_top l anything (broken k x) v t kept e = absurd cc
+leaf_top l anything (broken k x) v t kept e = absurd (no_ok e)
 leaf_top l anything n v t kept e = absurd t
 leaf_top l ignored n v t kept e = absurd kept
 leaf_top l (extended_values documents) (document slice ns) v t kept e = let m = map_ok (λ ps. datum made (tree.document ps)) (as_tree (document slice ns) >>= pairs_in) v e in subst IsMapping m.2 refl
-leaf_top l (extended_values documents) (broken k x) v t kept e = absurd cc
+leaf_top l (extended_values documents) (broken k x) v t kept e = absurd (no_ok e)
 leaf_top l (extended_values documents) n v t kept e = absurd t
 leaf_top l raw_documents (document slice ns) v t kept e = let m = map_ok value.raw_document (slice_of slice) v e in subst IsMapping m.2 refl
 leaf_top l raw_values (document slice ns) v t kept e = let m = map_ok value.raw_document (slice_of slice) v e in subst IsMapping m.2 refl
 leaf_top l (extended_values k) n v t kept e = absurd kept
-leaf_top l k (document slice ns) v t kept e = absurd cc
-leaf_top l k (broken j x) v t kept e = absurd cc
+leaf_top l k (document slice ns) v t kept e = absurd (no_ok e)
+leaf_top l k (broken j x) v t kept e = absurd (no_ok e)
 leaf_top l k n v t kept e = absurd t
 
 no_array : (n : Node) (ns : Nodes) → IsTop n → array_of n ≡ Ok ns → ⊥
-no_array (document slice ms) ns t e = absurd cc
-no_array (broken k x) ns t e = absurd cc
+no_array (document slice ms) ns t e = absurd (no_ok e)
+no_array (broken k x) ns t e = absurd (no_ok e)
 no_array n ns t e = absurd t
 
 no_null : (n : Node) (x : Unit {0}) → IsTop n → null_of n ≡ Ok x → ⊥
-no_null (document slice ms) x t e = absurd cc
-no_null (broken k f) x t e = absurd cc
+no_null (document slice ms) x t e = absurd (no_ok e)
+no_null (broken k f) x t e = absurd (no_ok e)
 no_null n x t e = absurd t
 
 no_parts_there : {A : Type 0} (n : Node) (read : Nodes → Reading A) (x : A) → IsTop n → (judged n >>= array_of >>= read) ≡ Ok x → ⊥
@@ -86,7 +87,7 @@ chosen true first other v one rest e = one refl e
 chosen false first other v one rest e = rest e
 
 content_kind : (name : Utf8) (c : Content) (n : Node) (v : Marked) → reads_content name c n ≡ Ok v → IsMapping v
-content_kind name unit_content n v e = absurd cc
+content_kind name unit_content n v e = absurd (no_ok e)
 content_kind name (newtype_content s) n v e =
     let read = result_map (value.newtype_variant (made name)) (reads s n) in
     let m = map_ok (value.newtype_variant (made name)) (reads s n) v (under_ok name read v e) in subst IsMapping m.2 refl
@@ -99,15 +100,15 @@ content_kind name (struct_content fs) n v e =
     let m = map_ok (value.structure_variant (made name)) (read d.0) v d.2 in subst IsMapping m.2 refl
 
 variant_kind : (vs : Variants) (key : Utf8) (n : Node) (v : Marked) → reads_variant vs key n ≡ Ok v → IsMapping v
-variant_kind no_variants key n v e = absurd cc
+variant_kind no_variants key n v e = absurd (no_ok e)
 variant_kind (variant name c vs) key n v e =
     chosen (bytes_eq name key) (reads_content name c n) (reads_variant vs key n) v (λ is q. content_kind name c n v q) (λ q. variant_kind vs key n v q) e
 
 enum_kind : (vs : Variants) (n : Node) (v : Marked) → IsTop n → read_enum (reads_unit vs) (reads_variant vs) n ≡ Ok v → IsMapping v
-enum_kind vs (document slice ended) v t e = absurd cc
-enum_kind vs (document slice (faulty f)) v t e = absurd cc
+enum_kind vs (document slice ended) v t e = absurd (no_ok e)
+enum_kind vs (document slice (faulty f)) v t e = absurd (no_ok e)
 enum_kind vs (document slice (then_node key n ns)) v t e = variant_kind vs key.bytes n v e
-enum_kind vs (broken k x) v t e = absurd cc
+enum_kind vs (broken k x) v t e = absurd (no_ok e)
 enum_kind vs n v t e = absurd t
 
 -- an option of a document is not none
@@ -158,7 +159,7 @@ closed_top false slice ns e = tt
 
 pub answered_is : (r : Reading Marked) (d : Marked) → answered r ≡ Ok d → r ≡ Ok d
 answered_is (Ok v) d e = ap Ok cc
-answered_is (Err f) d e = absurd cc
+answered_is (Err f) d e = absurd (no_ok e)
 
 abbrev pub read_in : Form → Result Bytes raw_error.Error → Result Marked (Failure ReadFault)
 read_in s r = elim r [ Ok b ↦ answered (reads (settled false s) (node_in max_levels EmbeddedDocument b)) | Err f ↦ Err (bare (unreadable (raw f))) ]
@@ -174,7 +175,7 @@ node_read s bytes d h e = by_case (envelope bytes) (λ b q. let f = frame bytes 
       let m = map_ok contents (answered (reads (settled false s) n)) d q in
       let f = same b refl in
       (b, m.0, seen_tame max_levels EmbeddedDocument b (subst AreBytes f.0 h) (subst IsAnnounced f.0 f.1), answered_is (reads (settled false s) n) m.0 m.1, m.2)
-  by_case (Err f) same q = absurd cc
+  by_case (Err f) same q = absurd (no_ok q)
 
 -- what is read from a document, or from bytes that are none, is written, unless it is too large
 pub top_written : (at : Sight) (s : Form) (n : Node) (m : Marked) → IsTop n → IsShape s → HasWritableKeys s → KeepsDocument s → IsGiven at (contents m) s → reads s n ≡ Ok m → IsWrittenUnlessLarge (spell_document (contents m))

@@ -28,6 +28,7 @@ use Rattle.bson_laws.proofs.CutReads.{reads_cut}
 use Rattle.bson_laws.proofs.CutViews.{views_cut}
 use Rattle.bson_laws.proofs.Fitting.{fits_body, body_fits}
 use Rattle.bson_laws.proofs.SettledCut.{settled_alike}
+use Rattle.bson_kinds.proofs.Apart.{no_some, some_no}
 
 -- ---- forms that agree
 
@@ -60,7 +61,7 @@ stepped m d h key table l =
     ∙ ap (λ (g : Meanings). cut (g key) d) (one_more m h)
 
 pub found : (m : ℕ) (h : Fields) (g : Meanings) (key : Utf8) (s : Form) → definition h key ≡ Some s → unrolled_name m h g key ≡ unrolled m s g
-found m no_fields g key s e = absurd cc
+found m no_fields g key s e = absurd (no_some e)
 found m (field name r h) g key s e = by_case (bytes_eq name key) (found m h g key s) e where
   by_case : (b : Bool) → (definition h key ≡ Some s → unrolled_name m h g key ≡ unrolled m s g) → cond b (Some r) (definition h key) ≡ Some s → cond b (unrolled m r g) (unrolled_name m h g key) ≡ unrolled m s g
   by_case true rest q = ap (λ z. unrolled m z g) (same r s q) where
@@ -72,7 +73,7 @@ pub missing : (m : ℕ) (h : Fields) (g : Meanings) (key : Utf8) → definition 
 missing m no_fields g key e = refl
 missing m (field name r h) g key e = by_case (bytes_eq name key) (missing m h g key) e where
   by_case : (b : Bool) → (definition h key ≡ None → unrolled_name m h g key ≡ undefined key) → cond b (Some r) (definition h key) ≡ None → cond b (unrolled m r g) (unrolled_name m h g key) ≡ undefined key
-  by_case true rest q = absurd cc
+  by_case true rest q = absurd (some_no q)
   by_case false rest q = rest q
 
 -- down to each depth, a reference is its definition

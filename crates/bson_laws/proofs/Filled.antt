@@ -20,6 +20,7 @@ use Rattle.bson_laws.specs.declared.origin.Origin.{Origin}
 use Rattle.bson_laws.specs.ReadsFrom.{reads_from, slots_of}
 use Rattle.bson_laws.proofs.Placed.{names_of, IsNone}
 use Rattle.bson_laws.proofs.Fitted.{chosen_t, chosen_f, bytes_same, Unnamed}
+use Rattle.bson_kinds.proofs.Apart.{no_some}
 
 -- ---- what is read of a tree
 
@@ -29,7 +30,7 @@ ok_of (Err e) = None
 
 ok_is_of : {A : Type 0} (r : Reading A) (x : A) → ok_of r ≡ Some x → r ≡ Ok x
 ok_is_of (Ok y) x e = ap Ok (some_is y x e)
-ok_is_of (Err f) x e = absurd cc
+ok_is_of (Err f) x e = absurd (no_some e)
 
 -- what a tree is read as at a shape, with so many levels left
 abbrev pub seen : Origin → (at : Sight) → ℕ → Form → Tree → Option Marked

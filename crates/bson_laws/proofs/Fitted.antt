@@ -35,6 +35,7 @@ use Rattle.bson_laws.proofs.Fitting.{fits_leaf, fits_lossy, fits_body}
 use Rattle.bson_laws.proofs.Free.{free_means, free_norm, free_struct_means, free_newtype_name, free_struct_name}
 use Rattle.bson_laws.proofs.Known.{fitting_known}
 use Rattle.bson_laws.proofs.Spelled.{found, tree_is, trees_are, pairs_are}
+use Rattle.bson_kinds.proofs.Apart.{no_some, false_no, true_no}
 
 pub bytes_eq-refl : (xs : Utf8) → bytes_eq xs xs ≡ true
 bytes_eq-refl xs = (bytes_eq-Decides xs xs).1 refl
@@ -44,10 +45,10 @@ bytes_same xs ys e = (bytes_eq-Decides xs ys).0 e
 
 in_range_is : (type : IntegerType) (n : ℤ) (b : Bool) → in_range type n ≡ b → b ≡ true → as_integer type n ≡ Some (integer type n)
 in_range_is type n true e t = ap (λ c. cond c (Some (integer type n)) None) e
-in_range_is type n false e t = absurd cc
+in_range_is type n false e t = absurd (false_no t)
 
 wide_number : (type : IntegerType) (b : Bool) (n : ℤ) (t : Tree) → cond b None (Some (int64 n)) ≡ Some t → views_leaf (numbers type) t ≡ as_integer type n
-wide_number type true n t e = absurd cc
+wide_number type true n t e = absurd (no_some e)
 wide_number type false n t e = ap (views_leaf (numbers type)) (sym (tree_is (int64 n) t e))
 
 -- the tree that a number means is that number
@@ -57,10 +58,10 @@ number_tree type k n t e = wide_number type _ n t e
 
 pub chosen_t : (a : Bool) (t : Tree) (o : Option Tree) → a ≡ true → cond a (Some t) o ≡ Some t
 chosen_t true t o p = refl
-chosen_t false t o p = absurd cc
+chosen_t false t o p = absurd (false_no p)
 
 pub chosen_f : (a : Bool) (t : Tree) (o : Option Tree) → a ≡ false → cond a (Some t) o ≡ o
-chosen_f true t o p = absurd cc
+chosen_f true t o p = absurd (true_no p)
 chosen_f false t o p = refl
 
 -- no field has the name
@@ -105,7 +106,7 @@ character_again : (c : ℕ) → IsScalar c → as_character (encode_utf8 c) ≡ 
 character_again c h = ap (λ cs. option_map value.character (one_character cs)) (one_again c h)
 
 wide_is : (b : Bool) (n : ℤ) (t : Tree) → cond b None (found (int64 n)) ≡ Some t → int64 n ≡ t
-wide_is true n t e = absurd cc
+wide_is true n t e = absurd (no_some e)
 wide_is false n t e = tree_is (int64 n) t e
 
 mutual
@@ -203,7 +204,7 @@ named_content false n name d c vs u is e h = h e
 
 -- the contents of the variant that has a name
 variant_viewed : (vs : Variants) (name : Utf8) (c : Content) (u : Tree) → content_of vs name ≡ Some c → views_variant vs name u ≡ views_content name c u
-variant_viewed no_variants name c u e = absurd cc
+variant_viewed no_variants name c u e = absurd (no_some e)
 variant_viewed (variant n d vs) name c u e = named_content (bytes_eq n name) n name d c vs u refl e (variant_viewed vs name c u)
 
 chosen_plain : (b : Bool) (d c : Content) (o : Option Content) → IsContentPlain d → cond b (Some d) o ≡ Some c → (o ≡ Some c → IsContentPlain c) → IsContentPlain c
@@ -211,7 +212,7 @@ chosen_plain true d c o p e h = subst IsContentPlain (some_is d c e) p
 chosen_plain false d c o p e h = h e
 
 pub content_plain : (vs : Variants) (name : Utf8) (c : Content) → AreVariantsPlain vs → content_of vs name ≡ Some c → IsContentPlain c
-content_plain no_variants name c p e = absurd cc
+content_plain no_variants name c p e = absurd (no_some e)
 content_plain (variant n d vs) name c p e = chosen_plain (bytes_eq n name) d c (content_of vs name) p.1 e (content_plain vs name c p.2)
 
 -- the key that a text is written as is that text

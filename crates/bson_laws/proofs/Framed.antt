@@ -8,6 +8,7 @@ use Rattle.bson_kinds.specs.Text.{Bytes}
 use Rattle.bson_rawdoc.specs.Envelope.{is_closed, envelope}
 use Rattle.bson_rawdoc.specs.Numbers.{int32_in}
 use Rattle.bson_rawdoc.specs.declared.raw.Error.TheVariants.{TooShort, LengthDiffers, NoTerminator}
+use Rattle.bson_kinds.proofs.Apart.{no_ok, false_no}
 
 -- they pass the test of the envelope
 abbrev pub IsFramed : Bytes → Type 0
@@ -19,9 +20,9 @@ pub record IsAnnounced (b : Bytes) : Type 0 where
   pub told : int32_in b ≡ pos (length b)
 
 parts : (p q r : Bool) (b d : Bytes) → cond p (Err TooShort) (cond (not q) (Err LengthDiffers) (cond (not r) (Err NoTerminator) (Ok b))) ≡ Ok d → (b ≡ d) × (p ≡ false) × (q ≡ true) × (r ≡ true)
-parts true q r b d e = absurd cc
-parts false false r b d e = absurd cc
-parts false true false b d e = absurd cc
+parts true q r b d e = absurd (no_ok e)
+parts false false r b d e = absurd (no_ok e)
+parts false true false b d e = absurd (no_ok e)
 parts false true true b d e = (cc, refl, refl, refl)
 
 announced : (b : Bytes) → nat_lt (length b) 5 ≡ false → int_eq (int32_in b) (pos (length b)) ≡ true → IsAnnounced b
@@ -36,7 +37,7 @@ frame b d e =
 passed : (a b c : Bool) (x : Bytes) → a ≡ false → b ≡ true → c ≡ true → cond a (Err TooShort) (cond (not b) (Err LengthDiffers) (cond (not c) (Err NoTerminator) (Ok x))) ≡ Ok x
 passed true b c x p q r = absurd cc
 passed false false c x p q r = absurd cc
-passed false true false x p q r = absurd cc
+passed false true false x p q r = absurd (false_no r)
 passed false true true x p q r = refl
 
 pub framed : (b : Bytes) → IsAnnounced b → is_closed b ≡ true → IsFramed b

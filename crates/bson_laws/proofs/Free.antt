@@ -13,10 +13,11 @@ use Rattle.bson_laws.specs.Unwrap.{unwrap, scoped_code}
 use Rattle.bson_laws.specs.UuidBytes.{uuid_bytes}
 use Rattle.bson_laws.specs.Means.{norm_struct, norm, norm_fields, struct_means, reserved_means, means, means_fields, means_list}
 use Rattle.bson_laws.specs.Spell.{spell_uuid, enclosed_at, struct_at, reserved_at, spell_as, spell_list, spell, spell_fields}
+use Rattle.bson_kinds.proofs.Apart.{true_no}
 
 neither : (a b c : Bool) → (a || (b || (c || false))) ≡ false → (a ≡ false) × (b ≡ false)
-neither true b c e = absurd cc
-neither false true c e = absurd cc
+neither true b c e = absurd (true_no e)
+neither false true c e = absurd (true_no e)
 neither false false c e = (refl, refl)
 
 -- the name is neither that of a UUID nor that of the readable form

@@ -41,6 +41,7 @@ use Rattle.bson_laws.proofs.Mended.{mended_tame}
 use Rattle.bson_laws.proofs.Tame as tame
 use Rattle.bson_laws.proofs.Tame.{IsTextSeen, after_judged, judged_refused, document_tame, array_tame}
 use Rattle.bson_laws.proofs.Viewed.{one_scalar}
+use Rattle.bson_kinds.proofs.Apart.{no_ok}
 
 -- ---- what is given
 
@@ -111,20 +112,20 @@ IsGivenLeafKey k v = ⊥
 
 whole_binary : (b : Bool) (p q : Piece) → is_utf8 p.bytes ≡ b → cond b (Ok p) (refused not_utf8) ≡ Ok q → is_utf8 q.bytes ≡ true
 whole_binary true p q is e = subst (λ (x : Piece). is_utf8 x.bytes ≡ true) (ok_is p q e) is
-whole_binary false p q is e = absurd cc
+whole_binary false p q is e = absurd (no_ok e)
 
 -- what is taken of a text is the text
 borrow_is : (b : Bool) (t p : Piece) → borrow_or_own b t ≡ Ok p → p.bytes ≡ t.bytes
 borrow_is true t p e = held t.in_input e where
   held : (b : Bool) → cond b (Ok t) (refused not_borrowed) ≡ Ok p → p.bytes ≡ t.bytes
   held true q = ap (λ (x : Piece). x.bytes) (sym (ok_is t p q))
-  held false q = absurd cc
+  held false q = absurd (no_ok q)
 borrow_is false t p e = ap (λ (x : Piece). x.bytes) (sym (ok_is (made t.bytes) p e))
 
 pub whole_text : (b : Bool) (n m : Node) (p : Piece) → judged n ≡ Ok m → text_of b n ≡ Ok p → is_utf8 p.bytes ≡ true
 whole_text b (node.string t) m p j e = ap is_utf8 (borrow_is b t p e) ∙ judged_text t m j
 whole_text b (node.bytes u x) m p j e = let q = bind_ok (borrow_or_own b (owned_under_mark u x)) as_text p e in whole_binary (is_utf8 q.0.bytes) q.0 p refl q.2
-whole_text b n m p j e = absurd cc
+whole_text b n m p j e = absurd (no_ok e)
 
 -- ---- entries
 
@@ -308,11 +309,11 @@ module _ (sight : Sight) where
     any_given (node.array slice ns) m v t j e = let r = map_ok value.sequence (any_items 0 ns) v e in subst AnyGiven r.2 (any_items_given 0 ns r.0 t.1 r.1)
     any_given (node.document slice ns) m v t j e = let r = map_ok value.map (any_entries ns no_entries) v e in map_given r.0 v (any_entries_given ns no_entries r.0 t.1 (tt, tt) r.1) r.2
     any_given (node.extended x ns) m v t j e = let r = map_ok value.map (any_entries ns no_entries) v e in map_given r.0 v (any_entries_given ns no_entries r.0 t.1 (tt, tt) r.1) r.2
-    any_given n m v t j e = absurd cc
+    any_given n m v t j e = absurd (no_ok e)
 
     any_items_given : (i : ℕ) (ns : Nodes) (vs : MarkedItems) → AreTame ns → any_items i ns ≡ Ok vs → AreGivenItems (item_contents vs)
     any_items_given i ended vs t e = subst (λ x. AreGivenItems (item_contents x)) (ok_is no_items vs e) tt
-    any_items_given i (faulty f) vs t e = absurd cc
+    any_items_given i (faulty f) vs t e = absurd (no_ok e)
     any_items_given i (then_node key n ns) vs t e =
         let a = bind_ok (under_index i (judged n >>= λ _. read_any n)) (λ v. result_map (item v) (any_items (suc i) ns)) vs e in
         let b = map_ok (item a.0) (any_items (suc i) ns) vs a.2 in
@@ -321,7 +322,7 @@ module _ (sight : Sight) where
 
     any_entries_given : (ns : Nodes) (es out : MarkedEntries) → AreTame ns → MapGiven es → any_entries ns es ≡ Ok out → MapGiven out
     any_entries_given ended es out t h e = subst MapGiven (ok_is es out e) h
-    any_entries_given (faulty f) es out t h e = absurd cc
+    any_entries_given (faulty f) es out t h e = absurd (no_ok e)
     any_entries_given (then_node key n ns) es out t h e =
         let k = value.str key in
         let a = bind_ok (under key.bytes (judged n >>= λ _. read_any n)) (λ v. any_entries ns (put_entry k v es)) out e in
@@ -340,30 +341,30 @@ module _ (sight : Sight) where
   integer_fits : (n : Node) (z : ℤ) → IsTame n → integer_of n ≡ Ok z → FitsSigned w64 z
   integer_fits (node.int32 x) z t e = subst (λ y. FitsSigned w64 y) (ok_is x z e) (wider x t)
   integer_fits (node.int64 x) z t e = subst (λ y. FitsSigned w64 y) (ok_is x z e) t
-  integer_fits n z t e = absurd cc
+  integer_fits n z t e = absurd (no_ok e)
 
   number_given : (type : IntegerType) (n : ℤ) (b : Bool) (v : Marked) → FitsSigned w64 n → in_range type n ≡ b → cond b (Ok (value.integer type n)) (refused (out_of_range n)) ≡ Ok v → LeafGiven (numbers type) v
   number_given type n true v f is e = subst (LeafGiven (numbers type)) (ok_is (value.integer type n) v e) (refl, is, f)
-  number_given type n false v f is e = absurd cc
+  number_given type n false v f is e = absurd (no_ok e)
 
   character_given : (cs : List ℕ) (o : Option ℕ) (v : Marked) → ((c : ℕ) → o ≡ Some c → IsScalar c) → read_character o ≡ Ok v → LeafGiven characters v
   character_given cs (Some c) v h e = subst (LeafGiven characters) (ok_is (value.character c) v e) (h c refl)
-  character_given cs None v h e = absurd cc
+  character_given cs None v h e = absurd (no_ok e)
 
   double_sized : (n : Node) (b : Bytes) → IsTame n → double_of n ≡ Ok b → length b ≡ 8
   double_sized (node.double bits) b t e = subst (λ (x : Bytes). length x ≡ 8) (ok_is bits b e) t
-  double_sized n b t e = absurd cc
+  double_sized n b t e = absurd (no_ok e)
 
   character_read : (n m : Node) (v : Marked) → judged n ≡ Ok m → character_of n ≡ Ok v → LeafGiven characters v
   character_read (node.string t) m v j e =
       character_given (chars t.bytes) (one_character (chars t.bytes)) v (λ c is. one_scalar (chars t.bytes) c (scalars-chars t.bytes (IsUtf8-from_is_utf8 t.bytes (judged_text t m j))) is) e
-  character_read n m v j e = absurd cc
+  character_read n m v j e = absurd (no_ok e)
 
   -- ---- what is borrowed
 
   borrowed_seen : (b : Bool) (p q : Piece) → p.in_input ≡ b → cond b (Ok p) (refused not_borrowed) ≡ Ok q → b ≡ true
   borrowed_seen true p q is e = refl
-  borrowed_seen false p q is e = absurd cc
+  borrowed_seen false p q is e = absurd (no_ok e)
 
   text_borrows : (l : Bool) (p q : Piece) → IsTextSeen sight p → borrow_or_own l p ≡ Ok q → TextBorrowed sight l
   text_borrows true p q t e = (t (borrowed_seen p.in_input p q refl e)).0
@@ -373,13 +374,13 @@ module _ (sight : Sight) where
   texts_borrow : (l : Bool) (n : Node) (q : Piece) → IsTame n → text_of l n ≡ Ok q → TextBorrowed sight l
   texts_borrow l (node.string p) q t e = text_borrows l p q t e
   texts_borrow l (node.bytes u b) q t e = let r = bind_ok (borrow_or_own l (owned_under_mark u b)) as_text q e in text_borrows l (owned_under_mark u b) r.0 t.2 r.1
-  texts_borrow l n q t e = absurd cc
+  texts_borrow l n q t e = absurd (no_ok e)
 
   bytes_borrow : (n : Node) (q : Piece) → IsTame n → bytes_of n ≡ Ok q → sight.bytes ≡ true
   bytes_borrow (node.string p) q t e = (t (borrowed_seen p.in_input p q refl e)).1
   bytes_borrow (node.bytes u b) q t e = t.1 (borrowed_seen b.in_input b q refl e)
   bytes_borrow (node.extended (node.object_id id) ns) q t e = t.0.2 (borrowed_seen id.in_input id q refl e)
-  bytes_borrow n q t e = absurd cc
+  bytes_borrow n q t e = absurd (no_ok e)
 
   leaf_borrowed : (extended : ExtendedLeaf → Node → Reading Marked) (l : Bool) (k : LeafKind) (n : Node) (v : Marked) → IsTame n → read_leaf_with extended l k n ≡ Ok v → LeafBorrowed sight l k
   leaf_borrowed extended l texts n v t e = let r = map_ok value.str (text_of l n) v e in texts_borrow l n r.0 t r.1
@@ -409,26 +410,26 @@ module _ (sight : Sight) where
   leaf_key_given l characters key v h e = by_case (one_character (chars key.bytes)) e where
     by_case : (o : Option ℕ) → read_character o ≡ Ok v → LeafKeyGiven characters v
     by_case (Some c) q = subst (LeafKeyGiven characters) (ok_is (value.character c) v q) tt
-    by_case None q = absurd cc
+    by_case None q = absurd (no_ok q)
   leaf_key_given l texts key v h e = let r = map_ok value.str (borrow_or_own l key) v e in subst (LeafKeyGiven texts) r.2 (subst IsName (sym (borrow_is l key r.0 r.1)) h)
   leaf_key_given l byte_strings key v h e = let r = map_ok value.bytes (borrow key) v e in subst (LeafKeyGiven byte_strings) r.2 tt
   leaf_key_given l byte_buffers key v h e = subst (LeafKeyGiven byte_buffers) (ok_is (value.bytes (made key.bytes)) v e) tt
-  leaf_key_given l k key v h e = absurd cc
+  leaf_key_given l k key v h e = absurd (no_ok e)
 
   unit_given : (vs : Variants) (name : Utf8) (o : Option Content) (v : Marked) → content_of vs name ≡ o → unit_of name o ≡ Ok v → IsGiven sight (contents v) (enumeration vs)
-  unit_given vs name None v is e = absurd cc
+  unit_given vs name None v is e = absurd (no_ok e)
   unit_given vs name (Some unit_content) v is e = subst (λ x. IsGiven sight (contents x) (enumeration vs)) (ok_is (value.unit_variant (made name)) v e) is
-  unit_given vs name (Some c) v is e = absurd cc
+  unit_given vs name (Some c) v is e = absurd (no_ok e)
 
   unit_key_given : (vs : Variants) (name : Utf8) (o : Option Content) (v : Marked) → has_zero name ≡ false → content_of vs name ≡ o → unit_of name o ≡ Ok v → IsGivenKey sight (enumeration vs) (contents v)
-  unit_key_given vs name None v z is e = absurd cc
+  unit_key_given vs name None v z is e = absurd (no_ok e)
   unit_key_given vs name (Some unit_content) v z is e = subst (λ x. IsGivenKey sight (enumeration vs) (contents x)) (ok_is (value.unit_variant (made name)) v e) (is, z)
-  unit_key_given vs name (Some c) v z is e = absurd cc
+  unit_key_given vs name (Some c) v z is e = absurd (no_ok e)
 
   key_given : (s : Form) (key : Piece) (v : Marked) → IsName key.bytes → IsTextSeen sight key → reads_key s key ≡ Ok v → IsGivenKey sight s (contents v)
   key_given (leaf l) key v h t e = (leaf_key_given (borrows l) (leaf_kind l) key v h e, leaf_borrowed no_extended (borrows l) (leaf_kind l) (node.string key) v t e)
   key_given (enumeration vs) key v h t e = unit_key_given vs key.bytes (content_of vs key.bytes) v h.1 refl e
-  key_given s key v h t e = absurd cc
+  key_given s key v h t e = absurd (no_ok e)
 
   -- ---- lists
 
@@ -438,7 +439,7 @@ module _ (sight : Sight) where
 
   items_given : (read : Node → Reading Marked) (s : Form) → EachGiven read s → (i : ℕ) (ns : Nodes) (vs : MarkedItems) → AreTame ns → reads_items read i ns ≡ Ok vs → ItemsGiven sight (item_contents vs) s
   items_given read s each i ended vs t e = subst (λ x. ItemsGiven sight (item_contents x) s) (ok_is no_items vs e) tt
-  items_given read s each i (faulty f) vs t e = absurd cc
+  items_given read s each i (faulty f) vs t e = absurd (no_ok e)
   items_given read s each i (then_node key n ns) vs t e =
       let a = bind_ok (under_index i (read n)) (λ v. result_map (item v) (reads_items read (suc i) ns)) vs e in
       let b = map_ok (item a.0) (reads_items read (suc i) ns) vs a.2 in
@@ -454,8 +455,8 @@ module _ (sight : Sight) where
   -- the value that is read for the next element, and what is read from those behind it
   next_read : {A : Type 0} (i : ℕ) (read : Node → Reading Marked) (others : Marked → Nodes → Reading A) (ns : Nodes) (x : A) → AreTame ns → reads_next i read others ns ≡ Ok x
       → (n : Node) × (v : Marked) × (rest : Nodes) × IsTame n × AreTame rest × (read n ≡ Ok v) × (others v rest ≡ Ok x)
-  next_read i read others ended x t e = absurd cc
-  next_read i read others (faulty f) x t e = absurd cc
+  next_read i read others ended x t e = absurd (no_ok e)
+  next_read i read others (faulty f) x t e = absurd (no_ok e)
   next_read i read others (then_node key n ns) x t e =
       let a = bind_ok (under_index i (read n)) (λ v. others v ns) x e in
       (n, a.0, ns, t.1, t.2, inside_ok (at_index i) (read n) a.0 a.1, a.2)
@@ -488,8 +489,8 @@ module _ (sight : Sight) where
   absent_given : (name : Utf8) (s : Form) (v : Marked) → value_or name (missing_value s) None ≡ Ok v → IsGiven sight (contents v) s
   absent_given name (optional s) v e = subst (λ x. IsGiven sight (contents x) (optional s)) (ok_is value.none v e) tt
   absent_given name (by_mode readable (optional s)) v e = subst (λ x. IsGiven sight (contents x) (by_mode readable (optional s))) (ok_is value.none v e) tt
-  absent_given name (by_mode readable compact) v e = absurd cc
-  absent_given name s v e = absurd cc
+  absent_given name (by_mode readable compact) v e = absurd (no_ok e)
+  absent_given name s v e = absurd (no_ok e)
 
   value_given : (name : Utf8) (s : Form) (missing o : Option Marked) (v : Marked) → missing ≡ missing_value s → ((w : Marked) → o ≡ Some w → IsGiven sight (contents w) s) → value_or name missing o ≡ Ok v → IsGiven sight (contents v) s
   value_given name s missing None v is h e = absent_given name s v (ap (λ m. value_or name m None) (sym is) ∙ e)
@@ -513,7 +514,7 @@ module _ (sight : Sight) where
         each = h.each;
         value = λ v is. subst (λ x. IsGiven sight (contents x) s) (some_is b.0 v is) (h.each n b.0 t (under_ok key (slot.read n) b.0 b.1));
       })
-  filled_given key name n s slot out (Some v) t h e = absurd cc
+  filled_given key name n s slot out (Some v) t h e = absurd (no_ok e)
 
   put_given : (u : UnknownFields) (key : Utf8) (n : Node) (fs : Fields) (slots out : Slots) → IsTame n → AreSlotsOf fs slots → put_at u key n slots ≡ Ok out → AreSlotsOf fs out
   put_given u key n no_fields [] out t h e = let b = bind_ok (unknown u key n) (λ _. Ok []) out e in subst (AreSlotsOf no_fields) (ok_is [] out b.2) tt
@@ -528,7 +529,7 @@ module _ (sight : Sight) where
 
   fill_given : (u : UnknownFields) (ns : Nodes) (fs : Fields) (slots out : Slots) → AreTame ns → AreSlotsOf fs slots → fill u ns slots ≡ Ok out → AreSlotsOf fs out
   fill_given u ended fs slots out t h e = subst (AreSlotsOf fs) (ok_is slots out e) h
-  fill_given u (faulty f) fs slots out t h e = absurd cc
+  fill_given u (faulty f) fs slots out t h e = absurd (no_ok e)
   fill_given u (then_node key n ns) fs slots out t h e =
       let b = bind_ok (put_at u key.bytes n slots) (fill u ns) out e in
       fill_given u ns fs b.0 out t.2 (put_given u key.bytes n fs slots b.0 t.1 h b.1) b.2
@@ -547,10 +548,10 @@ module _ (sight : Sight) where
 
   structure_given : (u : UnknownFields) (fs : Fields) (slots : Slots) (n : Node) (vs : MarkedFields) → IsTame n → AreSlotsOf fs slots → read_structure u slots n ≡ Ok vs → StructGiven fs vs
   structure_given dropped fs slots (node.array slice ns) vs t h e = places_given fs slots 0 ns vs t.1 h e
-  structure_given denied fs slots (node.array slice ns) vs t h e = absurd cc
+  structure_given denied fs slots (node.array slice ns) vs t h e = absurd (no_ok e)
   structure_given u fs slots (node.document slice ns) vs t h e = keyed_given u fs slots ns vs t.1 h e
   structure_given u fs slots (node.extended x ns) vs t h e = keyed_given u fs slots ns vs t.1 h e
-  structure_given u fs slots n vs t h e = absurd cc
+  structure_given u fs slots n vs t h e = absurd (no_ok e)
 
   -- ---- variants
 
@@ -616,7 +617,7 @@ module _ (at_extended : ExtendedLeaf → Node → Reading Marked)
 
   entries_so : (at : Sight) (key s : Form) → EachGiven at (reads s) s → (ns : Nodes) (es out : MarkedEntries) → tame.AreTame at ns → EntriesSo at key s es → reads_entries (reads_key key) (reads s) ns es ≡ Ok out → EntriesSo at key s out
   entries_so at key s each ended es out t h e = subst (EntriesSo at key s) (ok_is es out e) h
-  entries_so at key s each (faulty f) es out t h e = absurd cc
+  entries_so at key s each (faulty f) es out t h e = absurd (no_ok e)
   entries_so at key s each (then_node k n ns) es out t h e =
       let a = bind_ok (reads_key key k) (λ x. under k.bytes (reads s n) >>= λ v. reads_entries (reads_key key) (reads s) ns (put_entry x v es)) out e in
       let b = bind_ok (under k.bytes (reads s n)) (λ v. reads_entries (reads_key key) (reads s) ns (put_entry a.0 v es)) out a.2 in
@@ -627,7 +628,7 @@ module _ (at_extended : ExtendedLeaf → Node → Reading Marked)
   enum_given at vs each (node.string p) v t e = unit_given at vs p.bytes (content_of vs p.bytes) v refl e
   enum_given at vs each (node.document slice (then_node key n ns)) v t e = let g = each key.bytes n v t.1.1 e in variant_given at vs key.bytes g.0 v t.1.0.1 g.1 g.2
   enum_given at vs each (node.extended x (then_node key n ns)) v t e = let g = each key.bytes n v t.1.1 e in variant_given at vs key.bytes g.0 v t.1.0.1 g.1 g.2
-  enum_given at vs each n v t e = absurd cc
+  enum_given at vs each n v t e = absurd (no_ok e)
 
   mutual
     pub reads_given : (at : Sight) (s : Form) (n : Node) (v : Marked) → tame.IsTame at n → reads s n ≡ Ok v → IsGiven at (contents v) s
@@ -680,12 +681,12 @@ module _ (at_extended : ExtendedLeaf → Node → Reading Marked)
         subst (λ x. PartsGiven at (item_contents x) (part s ps)) m.2 (reads_given at s r.0 r.1 r.3 r.5, reads_parts_given at ps (suc i) r.2 m.0 r.4 m.1)
 
     reads_variant_given : (at : Sight) (vs : Variants) (key : Utf8) (n : Node) (v : Marked) → tame.IsTame at n → reads_variant vs key n ≡ Ok v → VariantGiven at (content_of vs key) key v
-    reads_variant_given at no_variants key n v t e = absurd cc
+    reads_variant_given at no_variants key n v t e = absurd (no_ok e)
     reads_variant_given at (variant name c vs) key n v t e =
         chosen_given at (bytes_eq name key) name key c (content_of vs key) v (reads_content name c n) (reads_variant vs key n) refl (λ q. reads_content_given at name c n v t q) (λ q. reads_variant_given at vs key n v t q) e
 
     reads_content_given : (at : Sight) (name : Utf8) (c : Content) (n : Node) (v : Marked) → tame.IsTame at n → reads_content name c n ≡ Ok v → ContentGiven at name c v
-    reads_content_given at name unit_content n v t e = absurd cc
+    reads_content_given at name unit_content n v t e = absurd (no_ok e)
     reads_content_given at name (newtype_content s) n v t e =
         let m = map_ok (value.newtype_variant (made name)) (reads s n) v (under_ok name (result_map (value.newtype_variant (made name)) (reads s n)) v e) in
         (contents m.0, ap contents (sym m.2), reads_given at s n m.0 t m.1)

@@ -55,6 +55,7 @@ use Rattle.bson_laws.proofs.ParsedSizes.{digits_sized, uuid_sized, base64_bytes,
 use Rattle.bson_laws.proofs.Sizes.{inside_ok, under_ok}
 use Rattle.bson_laws.proofs.Tame as tame
 use Rattle.bson_laws.proofs.Tame.{judged_is, after_judged}
+use Rattle.bson_kinds.proofs.Apart.{no_ok, no_some, false_no}
 
 module _ (sight : Sight) where
   abbrev IsTame : Node → Type 0
@@ -92,11 +93,11 @@ module _ (sight : Sight) where
 
   text_makes : (f : Utf8 → Option Tree) → ((x : Utf8) (t : Tree) → is_utf8 x ≡ true → f x ≡ Some t → IsGivenTree t) → Makes text (a_text f)
   text_makes f h (value.str x) t g e = h x t g.0 e
-  text_makes f h v t g e = absurd cc
+  text_makes f h v t g e = absurd (no_some e)
 
   number_makes : (type : IntegerType) (l : Leaf) (f : ℤ → Option Tree) → leaf_kind l ≡ leaf_kinds.numbers type → ((n : ℤ) (t : Tree) → in_range type n ≡ true → f n ≡ Some t → IsGivenTree t) → Makes (leaf l) (a_number f)
   number_makes type l f is h (value.integer other n) t g e = h n t (subst (λ k. IsGivenLeaf k (value.integer other n)) is g.0).1 e
-  number_makes type l f is h v t g e = absurd cc
+  number_makes type l f is h v t g e = absurd (no_some e)
 
   fields_of : (name n : Utf8) (vs : FieldValues) (fs : Fields) → IsGiven (value.structure name vs) (structure dropped n fs) → FieldsGiven vs fs
   fields_of name n vs fs g = g.1
@@ -110,7 +111,7 @@ module _ (sight : Sight) where
   field_makes : (n : Utf8) (s : Form) (make : Value → Option Tree) → Makes s make → Makes (with_field n s) (a_field make)
   field_makes n s make h (value.structure name (field_value key v no_field_values)) t g e =
       h v t (first_of key n v s no_field_values no_fields (fields_of name [] (field_value key v no_field_values) (field n s no_fields) g)) e
-  field_makes n s make h v t g e = absurd cc
+  field_makes n s make h v t g e = absurd (no_some e)
 
   two_make : (n m : Utf8) (s r : Form) (make : Value → Value → Option Tree) → ((v w : Value) (t : Tree) → IsGiven v s → IsGiven w r → make v w ≡ Some t → IsGivenTree t) → Makes (with_fields n s m r) (two_fields make)
   two_make n m s r make h (value.structure name (field_value key v (field_value other w no_field_values))) t g e =
@@ -118,7 +119,7 @@ module _ (sight : Sight) where
       let fs = field m r no_fields in
       let f = fields_of name [] (field_value key v vs) (field n s fs) g in
       h v w t (first_of key n v s vs fs f) (first_of other m w r no_field_values no_fields (rest_of key n v s vs fs f)) e
-  two_make n m s r make h v t g e = absurd cc
+  two_make n m s r make h v t g e = absurd (no_some e)
 
   two_texts_make : (n m : Utf8) (f : Utf8 → Utf8 → Option Tree) → ((x y : Utf8) (t : Tree) → is_utf8 x ≡ true → is_utf8 y ≡ true → f x y ≡ Some t → IsGivenTree t) → Makes (with_fields n text m text) (two_texts f)
   two_texts_make n m f h = two_make n m text text (λ v w. a_text (λ x. a_text (f x) w) v) (λ v w t g k e. text_makes (λ x. a_text (f x) w) (λ x u gx ex. text_makes (f x) (λ y z gy ey. h x y z gx gy ey) w u k ex) v t g e)
@@ -143,7 +144,7 @@ module _ (sight : Sight) where
 
   small_u32 : (n : ℤ) → in_range u32 n ≡ true → unsigned_abs n < 2 ^ 32
   small_u32 (pos n) h = grind (arith, ints, h)
-  small_u32 (negsuc n) h = absurd cc
+  small_u32 (negsuc n) h = absurd (false_no h)
 
   -- ---- the rows
 
@@ -156,14 +157,14 @@ module _ (sight : Sight) where
 
   length_made : (n : ℕ) (make : Bytes → Tree) (b : Bytes) (c : Bool) (t : Tree) → nat_eq (length b) n ≡ c → (length b ≡ n → IsGivenTree (make b)) → cond c (Some (make b)) None ≡ Some t → IsGivenTree t
   length_made n make b true t is h e = subst IsGivenTree (some_is (make b) t e) (h (grind (arith, nat_tests, is)))
-  length_made n make b false t is h e = absurd cc
+  length_made n make b false t is h e = absurd (no_some e)
 
   id_makes : MakesGiven (judging oid_body)
   id_makes n t tame e = by_kind n tame (after_judged n (oid_body) (Some t) e) where
     by_kind : (m : Node) → IsTame m → oid_body m ≡ Ok (Some t) → IsGivenTree t
     by_kind (node.string p) k q = id_made p.bytes t (ok_is (id_of_text p.bytes) (Some t) q)
     by_kind (node.bytes u b) k q = length_made 12 tree.object_id b.bytes (nat_eq (length b.bytes) 12) t refl (λ h. (h, k.0)) (ok_is (of_length 12 tree.object_id b.bytes) (Some t) q)
-    by_kind m k q = absurd cc
+    by_kind m k q = absurd (no_ok q)
 
   date_given : (o : Option ℤ) (t : Tree) → ((n : ℤ) → o ≡ Some n → FitsSigned w64 n) → option_map tree.date_time o ≡ Some t → IsGivenTree t
   date_given o t fits e = mapped tree.date_time o t fits e
@@ -182,21 +183,21 @@ module _ (sight : Sight) where
 
   int32_either : (n : ℤ) (b : Bool) (t : Tree) → in_range i32 n ≡ b → cond b (Some (tree.int32 n)) None ≡ Some t → IsGivenTree t
   int32_either n true t is e = subst IsGivenTree (some_is (tree.int32 n) t e) (fits_i32 n is)
-  int32_either n false t is e = absurd cc
+  int32_either n false t is e = absurd (no_some e)
 
   int32_made : (o : Option ℤ) (t : Tree) → option_and_then int32_of o ≡ Some t → IsGivenTree t
   int32_made (Some n) t e = int32_either n (in_range i32 n) t refl e
-  int32_made None t e = absurd cc
+  int32_made None t e = absurd (no_some e)
 
   double_either : (a b c : Bool) (x y z : Bytes) (t : Tree) → length x ≡ 8 → length y ≡ 8 → length z ≡ 8 → cond a (Some (tree.double x)) (cond b (Some (tree.double y)) (cond c (Some (tree.double z)) None)) ≡ Some t → IsGivenTree t
   double_either true b c x y z t h k l e = subst IsGivenTree (some_is (tree.double x) t e) h
   double_either false true c x y z t h k l e = subst IsGivenTree (some_is (tree.double y) t e) k
   double_either false false true x y z t h k l e = subst IsGivenTree (some_is (tree.double z) t e) l
-  double_either false false false x y z t h k l e = absurd cc
+  double_either false false false x y z t h k l e = absurd (no_some e)
 
   being_made : (b : Bool) (u t : Tree) → IsGivenTree u → tree_if b u ≡ Some t → IsGivenTree t
   being_made true u t g e = subst IsGivenTree (some_is u t e) g
-  being_made false u t g e = absurd cc
+  being_made false u t g e = absurd (no_some e)
 
   -- a binary of bytes
   binary_given : (n : ℕ) (b : Bytes) → n < 256 → AreBytes b → IsGivenTree (tree.binary n b)
@@ -205,8 +206,8 @@ module _ (sight : Sight) where
 
   byte_there : (o : Option Bytes) (n : ℕ) → ((b : Bytes) → o ≡ Some b → AreBytes b) → option_and_then one_byte o ≡ Some n → n < 256
   byte_there (Some (b ∷ [])) n h e = subst (λ x. x < 256) (some_is b n e) (h (b ∷ []) refl 0 0 (omega arith))
-  byte_there (Some bs) n h e = absurd cc
-  byte_there None n h e = absurd cc
+  byte_there (Some bs) n h e = absurd (no_some e)
+  byte_there None n h e = absurd (no_some e)
 
   binary_made : (base64 subtype : Utf8) (t : Tree) → is_utf8 base64 ≡ true → binary_of_texts base64 subtype ≡ Some t → IsGivenTree t
   binary_made base64 subtype t whole e =
@@ -215,11 +216,11 @@ module _ (sight : Sight) where
 
   truth_makes : (f : Bool → Option Tree) → ((b : Bool) (t : Tree) → f b ≡ Some t → IsGivenTree t) → Makes (leaf leaves.Bool) (a_boolean f)
   truth_makes f h (value.boolean b) t g e = h b t e
-  truth_makes f h v t g e = absurd cc
+  truth_makes f h v t g e = absurd (no_some e)
 
   buffer_makes : (f : Bytes → Option Tree) → ((b : Bytes) (t : Tree) → f b ≡ Some t → IsGivenTree t) → Makes (leaf leaves.ByteBuf) (some_bytes f)
   buffer_makes f h (value.bytes b) t g e = h b t e
-  buffer_makes f h v t g e = absurd cc
+  buffer_makes f h v t g e = absurd (no_some e)
 
   regex_made : (p q : Utf8) (t : Tree) → is_utf8 p ≡ true → is_utf8 q ≡ true → Some (tree.regular_expression p (sorted q)) ≡ Some t → IsGivenTree t
   regex_made p q t g h e = subst IsGivenTree (some_is (tree.regular_expression p (sorted q)) t e) (g, sorted_text q h, sorted_twice q h)
@@ -274,11 +275,11 @@ module _ (sight : Sight) where
 
   made_of : (w : Wrapper) (o : Option Tree) (t : Tree) → or_bad w o ≡ Ok t → o ≡ Some t
   made_of w (Some u) t e = ap Some (ok_is u t e)
-  made_of w None t e = absurd cc
+  made_of w None t e = absurd (no_ok e)
 
   pairs_of_given : (t : Tree) (ps : Pairs) → IsGivenTree t → pairs_in t ≡ Ok ps → ArePairsGiven ps
   pairs_of_given (tree.document qs) ps g e = subst ArePairsGiven (ok_is qs ps e) g
-  pairs_of_given t ps g e = absurd cc
+  pairs_of_given t ps g e = absurd (no_ok e)
 
   -- ---- what comes after a scope
 
@@ -287,11 +288,11 @@ module _ (sight : Sight) where
   scope_code key true n ps t g e =
       let m = map_ok (λ x. tree.javascript_code_with_scope x ps) (under key (text_at n)) t e in
       subst IsGivenTree m.2 (text_given n m.0 (under_ok key (text_at n) m.0 m.1), g)
-  scope_code key false n ps t g e = absurd cc
+  scope_code key false n ps t g e = absurd (no_ok e)
 
   after_scope_given : (ns : Nodes) (ps : Pairs) (t : Tree) → ArePairsGiven ps → after_scope ps ns ≡ Ok t → IsGivenTree t
-  after_scope_given ended ps t g e = absurd cc
-  after_scope_given (faulty f) ps t g e = absurd cc
+  after_scope_given ended ps t g e = absurd (no_ok e)
+  after_scope_given (faulty f) ps t g e = absurd (no_ok e)
   after_scope_given (then_node key n ns) ps t g e = scope_code key.bytes (bytes_eq key.bytes code_key) n ps t g e
 
   -- ---- trees
@@ -329,7 +330,7 @@ module _ (sight : Sight) where
       let m = map_ok (tree.javascript_code_with_scope x) (under key (reads_tree n >>= pairs_in)) t e in
       let b = bind_ok (reads_tree n) pairs_in m.0 (under_ok key (reads_tree n >>= pairs_in) m.0 m.1) in
       subst IsGivenTree m.2 (g, pairs_of_given b.0 m.0 (each b.0 b.1) b.2)
-  code_scope false key x n t g each e = absurd cc
+  code_scope false key x n t g each e = absurd (no_ok e)
 
   -- a value is given where it is once it is judged
   value_given : (n : Node) → ((m : Node) (t : Tree) → judged n ≡ Ok m → as_tree n ≡ Ok t → IsGivenTree t) → ValueGiven n
@@ -347,7 +348,7 @@ module _ (sight : Sight) where
     tree_given (node.int32 n) m t k j e = subst IsGivenTree (ok_is (tree.int32 n) t e) k
     tree_given (node.int64 n) m t k j e = subst IsGivenTree (ok_is (tree.int64 n) t e) k
     tree_given (node.extended x ns) m t k j e = extended_value_given x t k.0 (no_fault (extended_fault x) (node.extended x ns) m j) e
-    tree_given n m t k j e = absurd cc
+    tree_given n m t k j e = absurd (no_ok e)
 
     extended_value_given : (x : Extended) (t : Tree) → IsTameValue x → extended_fault x ≡ None → extended_tree x ≡ Ok t → IsGivenTree t
     extended_value_given (node.binary s b) t k f e = subst IsGivenTree (ok_is (tree.binary s b.bytes) t e) (binary_given s b.bytes k.0 k.1)
@@ -372,7 +373,7 @@ module _ (sight : Sight) where
 
     items_given : (i : ℕ) (ns : Nodes) (ts : Trees) → AreTame ns → array_trees i ns ≡ Ok ts → AreTreesGiven ts
     items_given i ended ts k e = subst AreTreesGiven (ok_is no_trees ts e) tt
-    items_given i (faulty f) ts k e = absurd cc
+    items_given i (faulty f) ts k e = absurd (no_ok e)
     items_given i (then_node key n ns) ts k e =
         let a = bind_ok (under_index i (reads_tree n)) (λ t. result_map (tree.tree t) (array_trees (suc i) ns)) ts e in
         let b = map_ok (tree.tree a.0) (array_trees (suc i) ns) ts a.2 in
@@ -380,14 +381,14 @@ module _ (sight : Sight) where
 
     document_given : (ns : Nodes) (ps : Pairs) (t : Tree) → AreTame ns → ArePairsGiven ps → document_tree ns ps ≡ Ok t → IsGivenTree t
     document_given ended ps t k g e = subst IsGivenTree (ok_is (tree.document ps) t e) g
-    document_given (faulty f) ps t k g e = absurd cc
+    document_given (faulty f) ps t k g e = absurd (no_ok e)
     document_given (then_node key n ns) ps t k g e =
         keyed_given (of_key key.bytes) key.bytes n (λ u. document_tree ns (put key.bytes u ps)) (λ x. after_code x ns) ns t refl k.1 (value_given n (λ m u j q. tree_given n m u k.1 j q))
         (λ u none h q. document_given ns (put key.bytes u ps) t k.2 (put_given key.bytes u ps k.0 none h g) q) (λ x h q. after_code_given x ns t h k.2 q) e
 
     after_code_given : (x : Utf8) (ns : Nodes) (t : Tree) → is_utf8 x ≡ true → AreTame ns → after_code x ns ≡ Ok t → IsGivenTree t
     after_code_given x ended t g k e = subst IsGivenTree (ok_is (tree.javascript_code x) t e) g
-    after_code_given x (faulty f) t g k e = absurd cc
+    after_code_given x (faulty f) t g k e = absurd (no_ok e)
     after_code_given x (then_node key n ns) t g k e = code_scope (bytes_eq key.bytes scope_key) key.bytes x n t g (value_given n (λ m u j q. tree_given n m u k.1 j q)) e
 
   -- ---- at the leaves of extended kinds
@@ -398,21 +399,21 @@ module _ (sight : Sight) where
 
   kind_either : (b : Bool) (k : ElementType) (t u : Tree) → nat_eq (byte (kind t)) (byte k) ≡ b → cond b (Ok t) (refused (wrong_kind (kind t))) ≡ Ok u → (t ≡ u) × (nat_eq (byte (kind u)) (byte k) ≡ true)
   kind_either true k t u is e = let same = ok_is t u e in (same, subst (λ x. nat_eq (byte (kind x)) (byte k) ≡ true) same is)
-  kind_either false k t u is e = absurd cc
+  kind_either false k t u is e = absurd (no_ok e)
 
   kind_is : (k : ElementType) (t u : Tree) → tree_of_kind k t ≡ Ok u → (t ≡ u) × (nat_eq (byte (kind u)) (byte k) ≡ true)
   kind_is k t u e = kind_either (nat_eq (byte (kind t)) (byte k)) k t u refl e
 
   long_either : (b : Bool) (n : ℕ) (x y : Bytes) → nat_eq (length x) n ≡ b → cond b (Ok x) (refused (invalid_length (length x))) ≡ Ok y → length y ≡ n
   long_either true n x y is e = subst (λ (z : Bytes). length z ≡ n) (ok_is x y e) (grind (arith, nat_tests, is))
-  long_either false n x y is e = absurd cc
+  long_either false n x y is e = absurd (no_ok e)
 
   long_is : (n : ℕ) (x y : Bytes) → with_length n x ≡ Ok y → length y ≡ n
   long_is n x y e = long_either (nat_eq (length x) n) n x y refl e
 
   long_both : (b : Bool) (n : ℕ) (x y : Bytes) → cond b (Ok x) (refused (invalid_length (length x))) ≡ Ok y → x ≡ y
   long_both true n x y e = ok_is x y e
-  long_both false n x y e = absurd cc
+  long_both false n x y e = absurd (no_ok e)
 
   long_same : (n : ℕ) (x y : Bytes) → with_length n x ≡ Ok y → x ≡ y
   long_same n x y e = long_both (nat_eq (length x) n) n x y e
@@ -424,7 +425,7 @@ module _ (sight : Sight) where
   id_of_kind : (t : Tree) → IsGivenTree t → nat_eq (byte (kind t)) (byte kinds.ObjectId) ≡ true → IsId t
   id_of_kind (tree.object_id id) g e = (id, g, refl)
   id_of_kind (tree.raw k b) g e = absurd g
-  id_of_kind t g e = absurd cc
+  id_of_kind t g e = absurd (false_no e)
 
   id_given : (n m : Node) (t : Tree) → IsTame n → judged n ≡ Ok m → object_id_at n ≡ Ok t → IsId t
   id_given (node.extended (node.object_id id) ns) m t k j e = (id.bytes, (k.0.0, k.0.1), sym (ok_is (tree.object_id id.bytes) t e))
@@ -435,20 +436,20 @@ module _ (sight : Sight) where
       let a = bind_ok (as_tree (node.document slice ns)) (tree_of_kind kinds.ObjectId) t e in
       let is = kind_is kinds.ObjectId a.0 t a.2 in
       id_of_kind t (subst IsGivenTree is.0 (tree_given (node.document slice ns) m a.0 k j a.1)) is.1
-  id_given n m t k j e = absurd cc
+  id_given n m t k j e = absurd (no_ok e)
 
   uuid_either : (a b : Bool) (x y : Bytes) → nat_eq (length x) 16 ≡ b → cond (a && b) (Ok x) (refused (wrong_kind kinds.Binary)) ≡ Ok y → length y ≡ 16
   uuid_either true true x y is e = subst (λ (z : Bytes). length z ≡ 16) (ok_is x y e) (grind (arith, nat_tests, is))
-  uuid_either true false x y is e = absurd cc
-  uuid_either false b x y is e = absurd cc
+  uuid_either true false x y is e = absurd (no_ok e)
+  uuid_either false b x y is e = absurd (no_ok e)
 
   uuid_of_tree : (t : Tree) (b : Bytes) → uuid_in t ≡ Ok b → length b ≡ 16
   uuid_of_tree (tree.binary s x) b e = uuid_either (nat_eq s 0 || nat_eq s 4) (nat_eq (length x) 16) x b refl e
-  uuid_of_tree t b e = absurd cc
+  uuid_of_tree t b e = absurd (no_ok e)
 
   uuid_text : (o : Option Bytes) (b : Bytes) → or_bad_uuid o ≡ Ok b → o ≡ Some b
   uuid_text (Some x) b e = ap Some (ok_is x b e)
-  uuid_text None b e = absurd cc
+  uuid_text None b e = absurd (no_ok e)
 
   uuid_subtype : (c : Bool) (s : ℕ) (x b : Bytes) (r : Reading Bytes) → (r ≡ Ok b → ⊥) → cond c (with_length 16 x) r ≡ Ok b → length b ≡ 16
   uuid_subtype true s x b r other e = long_is 16 x b e
@@ -458,7 +459,7 @@ module _ (sight : Sight) where
   uuid_given (node.extended (node.binary s x) ns) b e = uuid_subtype (nat_eq s 4) s x.bytes b _ (λ q. cc) e
   uuid_given (node.string p) b e = (uuid_sized p.bytes b (uuid_text (parsed p.bytes) b e)).0
   uuid_given (node.document slice ns) b e = let a = bind_ok (as_tree (node.document slice ns)) uuid_in b e in uuid_of_tree a.0 b a.2
-  uuid_given n b e = absurd cc
+  uuid_given n b e = absurd (no_ok e)
 
   pub extended_given : (k : ExtendedLeaf) (n m : Node) (v : Marked) → IsTame n → judged n ≡ Ok m → read_extended k n ≡ Ok v → IsGivenExtended k (contents v)
   extended_given object_ids n m v k j e =

@@ -24,6 +24,7 @@ use Rattle.bson_laws.proofs.GivenTrees.{IsGivenTree}
 use Rattle.bson_laws.proofs.JudgedTexts.{judged_text, no_fault, neither_fault, unfaulted}
 use Rattle.bson_laws.proofs.Sizes.{under_ok}
 use Rattle.bson_laws.proofs.Tame.{IsSliceFramed, IsTame, IsTameValue, after_judged}
+use Rattle.bson_kinds.proofs.Apart.{no_ok}
 
 -- ---- what is given
 
@@ -110,15 +111,15 @@ IsGivenRaw v = (k : Kept) × IsKept k × (v ≡ kept_value k)
 
 slice_framed : (slice : Whole) (p : Piece) → IsSliceFramed slice → slice_of slice ≡ Ok p → IsFramed p.bytes
 slice_framed (of_bytes b) p f e = subst (λ (x : Piece). IsFramed x.bytes) (ok_is (borrowed b) p e) f
-slice_framed w p f e = absurd cc
+slice_framed w p f e = absurd (no_ok e)
 
 pub document_framed : (at : Sight) (n : Node) (p : Piece) → IsTame at n → raw_document_of n ≡ Ok p → IsFramed p.bytes
 document_framed at (node.document slice ns) p t e = slice_framed slice p t.0 e
-document_framed at n p t e = absurd cc
+document_framed at n p t e = absurd (no_ok e)
 
 pub array_framed : (at : Sight) (n : Node) (p : Piece) → IsTame at n → raw_array_of n ≡ Ok p → IsFramed p.bytes
 array_framed at (node.array slice ns) p t e = slice_framed slice p t.0 e
-array_framed at n p t e = absurd cc
+array_framed at n p t e = absurd (no_ok e)
 
 -- ---- all values
 
@@ -157,4 +158,4 @@ raw_given at node.null m v t j e = kept (a_tree tree.null) value.unit v tt refl 
 raw_given at (node.int32 n) m v t j e = kept (a_tree (tree.int32 n)) (value.integer i32 n) v t refl (ok_is _ v e)
 raw_given at (node.int64 n) m v t j e = kept (a_tree (tree.int64 n)) (value.integer i64 n) v t refl (ok_is _ v e)
 raw_given at (node.extended x ns) m v t j e = extended_given at x v t.0 (no_fault (extended_fault x) (node.extended x ns) m j) e
-raw_given at n m v t j e = absurd cc
+raw_given at n m v t j e = absurd (no_ok e)

@@ -12,15 +12,16 @@ use Rattle.bson_values.specs.Value.{FieldValues, no_field_values, field_value}
 use Rattle.bson_laws.specs.Views.{are_named, all_known}
 use Rattle.bson_laws.specs.Means.{means, means_fields}
 use Rattle.bson_laws.specs.Fits.{FieldsFit}
+use Rattle.bson_kinds.proofs.Apart.{no_some, false_no}
 
 -- what there is under a condition is there, and the condition holds
 pub where_known : {A : Type 0} (b : Bool) (o : Option A) (x : A) → cond b o None ≡ Some x → (b ≡ true) × (o ≡ Some x)
 where_known true o x e = (refl, e)
-where_known false o x e = absurd cc
+where_known false o x e = absurd (no_some e)
 
 or_first : (a b : Bool) → a ≡ true → (a || b) ≡ true
 or_first true b e = refl
-or_first false b e = absurd cc
+or_first false b e = absurd (false_no e)
 
 or_second : (a b : Bool) → b ≡ true → (a || b) ≡ true
 or_second true b e = refl

@@ -6,6 +6,7 @@ use Rattle.bson_values.specs.Value.{Value, structure, mode, FieldValues, no_fiel
 use Rattle.bson_laws.specs.Unwrap.{Part, listed, listed_part, scoped_code}
 use Rattle.bson_laws.specs.Spell.{Writing, spell_as, spell_list, spell_part, size_as, size_list, size_part}
 use Rattle.bson_laws.proofs.Alike.{AreAlike, Both, SameScope, scopes_alike}
+use Rattle.bson_kinds.proofs.Apart.{no_some, some_no}
 
 -- the value itself, and what a function makes of it
 abbrev IsMade : {S : Type 0} → (Value → S) → Value → Value → S → Type 0
@@ -44,12 +45,12 @@ scope_made f (Some p) (Some q) c v h e =
     pair_is : (x y : Utf8 × Value) → Some x ≡ Some y → x ≡ y
     pair_is x y e = cc
 scope_made f (Some p) None c v h e = absurd h
-scope_made f None q c v h e = absurd cc
+scope_made f None q c v h e = absurd (no_some e)
 
 none_made : {S : Type 0} (f : Value → S) (o : Option (Utf8 × Value)) (q : Option (Utf8 × S)) → Both (SameScope (IsMade f)) o q → o ≡ None → q ≡ None
 none_made f None None h e = refl
 none_made f None (Some q) h e = absurd h
-none_made f (Some p) q h e = absurd cc
+none_made f (Some p) q h e = absurd (some_no e)
 
 pub scope_spelled : (r : Bool) (fs : FieldValues) (levels : ℕ) (c : Utf8) (v : Value) → scoped_code (listed fs []) ≡ Some (c, v) → scoped_code (spell_list r fs levels []) ≡ Some (c, spell_as r v levels)
 scope_spelled r fs levels c v e =

@@ -19,6 +19,7 @@ use Rattle.bson_rawdoc.specs.Walk.{Walk, ended, faulty, then_walk, walk}
 use Rattle.bson_rawdoc.specs.declared.raw.Error.{Error}
 use Rattle.bson_rawdoc.specs.declared.raw.Error.TheVariants.{ScopeTotal, TextUnclosed, ValueUnclosed}
 use Rattle.bson_laws.proofs.ChangedNodes.{changed, changed_value, changed_nodes, mended_input, marking, opened_marked}
+use Rattle.bson_kinds.proofs.Apart.{no_ok}
 
 -- all texts of the value that are no text of its own kind are in the input
 abbrev pub IsMarked : Node → Type 0
@@ -37,13 +38,13 @@ same_input p q e h = ap (λ (x : Piece). x.in_input) (sym e) ∙ h
 
 text_either : (c : Bool) (b : Bytes) (p : Piece) → cond c (Ok (borrowed b)) (Err TextUnclosed) ≡ Ok p → IsInput p
 text_either true b p e = same_input (borrowed b) p (ok_is (borrowed b) p e) refl
-text_either false b p e = absurd cc
+text_either false b p e = absurd (no_ok e)
 
 text_input : (b : Bytes) (p : Piece) → text_bytes b ≡ Ok p → IsInput p
 text_input b p e = text_either (is_closed b) (inside b) p e
 
 two_input : (o : Option (Bytes × Bytes)) (p : Piece × Piece) → two_bytes o ≡ Ok p → IsInput p.0 × IsInput p.1
-two_input None p e = absurd cc
+two_input None p e = absurd (no_ok e)
 two_input (Some texts) p e =
     let same = ok_is (borrowed texts.0, borrowed texts.1) p e in
     (same_input (borrowed texts.0) p.0 (ap (λ (x : Piece × Piece). x.0) same) refl, same_input (borrowed texts.1) p.1 (ap (λ (x : Piece × Piece). x.1) same) refl)
@@ -54,13 +55,13 @@ pointer_input b p e =
     same_input m.0 p.0 (ap (λ (x : Piece × Bytes). x.0) m.2) (text_input (take (length b - 12) b) m.0 m.1)
 
 scope_either : (c d : Bool) (b s : Bytes) (p : Piece × Bytes) → cond c (Err ScopeTotal) (cond d (result_map (λ code. (code, s)) (text_bytes b)) (Err ScopeTotal)) ≡ Ok p → IsInput p.0
-scope_either true d b s p e = absurd cc
+scope_either true d b s p e = absurd (no_ok e)
 scope_either false true b s p e =
     let m = map_ok (λ (code : Piece). (code, s)) (text_bytes b) p e in same_input m.0 p.0 (ap (λ (x : Piece × Bytes). x.0) m.2) (text_input b m.0 m.1)
-scope_either false false b s p e = absurd cc
+scope_either false false b s p e = absurd (no_ok e)
 
 scope_input : (n : ℤ) (b : Bytes) (p : Piece × Bytes) → scoped_bytes n b ≡ Ok p → IsInput p.0
-scope_input (negsuc n) b p e = absurd cc
+scope_input (negsuc n) b p e = absurd (no_ok e)
 scope_input (pos n) b p e =
     scope_either (nat_lt n 1 || nat_lt (length b) (n + 4 + 5)) (int_eq (int32_in (drop (n + 4) b)) (pos (length (drop (n + 4) b)))) (take (n + 4) b) (drop (n + 4) b) p e
 

@@ -25,6 +25,7 @@ use Rattle.bson_laws.proofs.Documents.{answered_is, read_in}
 use Rattle.bson_laws.proofs.Judged.{ReadAs}
 use Rattle.bson_laws.proofs.MarkedNodes.{IsMarked, node_marked}
 use Rattle.bson_laws.proofs.MendedTexts.{whole_mended}
+use Rattle.bson_kinds.proofs.Apart.{no_ok}
 
 -- ---- a text stays as it is
 
@@ -105,4 +106,4 @@ document_marked s bytes d owned e = by_case (envelope bytes) e where
       let m = map_ok contents (answered (reads_at s n)) d q in
       let h = marked_reads s n m.0 owned (node_marked max_levels EmbeddedDocument b) (answered_is (reads_at s n) m.0 m.1) in
       ap (λ x. result_map contents (answered x)) h.1 ∙ ap Ok (h.2 ∙ m.2)
-  by_case (Err f) q = absurd cc
+  by_case (Err f) q = absurd (no_ok q)

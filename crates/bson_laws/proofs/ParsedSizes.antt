@@ -23,12 +23,13 @@ use Rattle.bson_base.proofs.Base64Texts.{base64_ok}
 use Rattle.bson_base.proofs.IntegerTexts.{int64_fits}
 use Rattle.bson_base.proofs.Orders.{scalars-ascending, sorted-again}
 use Rattle.bson_kinds.proofs.Outcomes.{some_is}
+use Rattle.bson_kinds.proofs.Apart.{no_some}
 
 -- ---- hexadecimal digits
 
 pub ok_there : {A E : Type 0} (r : Result A E) (x : A) → result_ok r ≡ Some x → r ≡ Ok x
 ok_there (Ok y) x e = ap Ok (some_is y x e)
-ok_there (Err f) x e = absurd cc
+ok_there (Err f) x e = absurd (no_some e)
 
 pub digits_sized : (n : ℕ) (t b : List ℕ) → bytes_of_digits n t ≡ Some b → (length b ≡ n) × AreBytes b
 unfolding bytes_of_digits
@@ -49,7 +50,7 @@ either true o p g h = g
 either false o p g h = h
 
 none_gives : Gives16 None
-none_gives b e = absurd cc
+none_gives b e = absurd (no_some e)
 
 value_small : (c : ℕ) → is_hex_digit c ≡ true → value_of c < 16
 value_small c h = grind (arith, nat_tests)

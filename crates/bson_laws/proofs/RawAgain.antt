@@ -37,6 +37,7 @@ use Rattle.bson_laws.proofs.ParsedSizes.{sorted_text, sorted_twice}
 use Rattle.bson_laws.proofs.Sizes.{binary_is, expression_spelled}
 use Rattle.bson_laws.proofs.TreesAgain.{datum_spelled}
 use Rattle.bson_laws.proofs.ZeroFree.{free_sorted}
+use Rattle.bson_kinds.proofs.Apart.{no_ok}
 
 -- what is read from the tree so is spelled as the tree
 abbrev pub ComesBy : (at : Sight) → (Node → Reading Marked) → ℕ → Tree → Type 0
@@ -179,7 +180,7 @@ code_read true code scope ns h =
     )
 
 code_comes : (at : Sight) (code : Utf8) (scope : Bytes) (levels : ℕ) (t : Tree) → length (enc t) < 2 ^ 31 → is_utf8 code ≡ true → IsFramed scope → spell (code_value code scope) levels ≡ Ok t → RawComes at levels t
-code_comes at code scope zero t l h f e = absurd cc
+code_comes at code scope zero t l h f e = absurd (no_ok e)
 code_comes at code scope (suc n) t l h f e =
     let u = tree.raw JavaScriptCodeWithScope (after_total (closed_text code ++ scope)) in
     let is : u ≡ t = ok_is u t e in

@@ -24,10 +24,11 @@ use Rattle.bson_laws.proofs.GivenAt.{reads_given}
 use Rattle.bson_laws.proofs.ReadBack.{envelope_again}
 use Rattle.bson_laws.proofs.Settled.{settled_same}
 use Rattle.bson_laws.proofs.Sizes.{spell_kind, length-spell}
+use Rattle.bson_kinds.proofs.Apart.{no_ok}
 
 top_ok : (k : ElementType) (r : Writing Tree) (t : Tree) → at_top k r ≡ Ok t → (k ≡ EmbeddedDocument) × (r ≡ Ok t)
 top_ok EmbeddedDocument r t e = (refl, e)
-top_ok k r t e = absurd cc
+top_ok k r t e = absurd (no_ok e)
 
 -- a document takes as many bytes as the size of its value says
 pub document_size : (d : Value) (t : Tree) → spell_document d ≡ Ok t → size d ≡ length (enc t)

@@ -59,11 +59,12 @@ use Rattle.bson_laws.proofs.Items.{ReadsBack, items_again}
 use Rattle.bson_laws.proofs.Entries.{KeepsApart, ReadsKeys, new_first, entries_again}
 use Rattle.bson_laws.proofs.Unshaped.{any_again}
 use Rattle.bson_laws.proofs.Variants.{unit_is}
+use Rattle.bson_kinds.proofs.Apart.{no_some, false_no, true_no}
 
 -- ---- the names of a shape's fields
 
 neither : (a b : Bool) → (a || b) ≡ false → (a ≡ false) × (b ≡ false)
-neither true b e = absurd cc
+neither true b e = absurd (true_no e)
 neither false b e = (refl, e)
 
 unnamed_from : (name : Utf8) (fs : Fields) → has_field name fs ≡ false → Unnamed name fs
@@ -87,7 +88,7 @@ named_not key (field n s fs) h u = not_named (bytes_eq key n) (has_field key fs)
 
 number_read : (type : IntegerType) (n : ℤ) (b : Bool) (v : Value) → cond b (Some (value.integer type n)) None ≡ Some v → ReadAs contents (cond b (Ok (value.integer type n)) (refused (out_of_range n))) v
 number_read type n true v e = (value.integer type n, refl, some_is (value.integer type n) v e)
-number_read type n false v e = absurd cc
+number_read type n false v e = absurd (no_some e)
 
 -- what may be borrowed is
 borrowed_bytes : (b : Bool) (bs : Bytes) (v : Value) → b ≡ true → value.bytes bs ≡ v → ReadAs contents (result_map value.bytes (borrow (piece b bs))) v
@@ -96,28 +97,28 @@ borrowed_bytes false bs v borrows_input e = absurd cc
 
 leaf_read : (at : Sight) (l : Bool) (k : LeafKind) (t : Tree) (v : Value) (levels : ℕ) → LeafBorrowed at l k → IsClean t → depth t ≤ levels → views_leaf k t ≡ Some v → ReadAs contents (in_bytes.read_leaf l k (tree_node at t levels)) v
 leaf_read at l anything t v levels borrows_input c d e = any_again at levels t v c d e
-leaf_read at l ignored t v levels borrows_input c d e = absurd cc
+leaf_read at l ignored t v levels borrows_input c d e = absurd (no_some e)
 leaf_read at l booleans (boolean b) v levels borrows_input c d e = (value.boolean b, refl, some_is (value.boolean b) v e)
 leaf_read at l booleans t v levels borrows_input c d e = absurd cc
 leaf_read at l (numbers type) (int32 n) v levels borrows_input c d e = number_read type n (in_range type n) v e
 leaf_read at l (numbers type) (int64 n) v levels borrows_input c d e = number_read type n (in_range type n) v e
-leaf_read at l (numbers type) t v levels borrows_input c d e = absurd cc
+leaf_read at l (numbers type) t v levels borrows_input c d e = absurd (no_some e)
 leaf_read at l doubles (double bits) v levels borrows_input c d e = (value.double bits, refl, some_is (value.double bits) v e)
-leaf_read at l doubles t v levels borrows_input c d e = absurd cc
+leaf_read at l doubles t v levels borrows_input c d e = absurd (no_some e)
 leaf_read at l characters (string t) v levels borrows_input c d e = let m = some_map value.character (one_character (chars t)) v e in (value.character m.0, ap read_character m.1, m.2)
-leaf_read at l characters t v levels borrows_input c d e = absurd cc
+leaf_read at l characters t v levels borrows_input c d e = absurd (no_some e)
 leaf_read at l texts (string t) v levels borrows_input c d e = borrowed_text at l t v borrows_input (some_is (value.str t) v e)
-leaf_read at l texts t v levels borrows_input c d e = absurd cc
+leaf_read at l texts t v levels borrows_input c d e = absurd (no_some e)
 leaf_read at l byte_strings (binary zero bs) v levels borrows_input c d e = borrowed_bytes at.bytes bs v borrows_input (some_is (value.bytes bs) v e)
-leaf_read at l byte_strings t v levels borrows_input c d e = absurd cc
+leaf_read at l byte_strings t v levels borrows_input c d e = absurd (no_some e)
 leaf_read at l byte_buffers (binary zero bs) v levels borrows_input c d e = (value.bytes (made bs), refl, some_is (value.bytes bs) v e)
-leaf_read at l byte_buffers t v levels borrows_input c d e = absurd cc
+leaf_read at l byte_buffers t v levels borrows_input c d e = absurd (no_some e)
 leaf_read at l units null v levels borrows_input c d e = (value.unit, refl, some_is value.unit v e)
-leaf_read at l units t v levels borrows_input c d e = absurd cc
+leaf_read at l units t v levels borrows_input c d e = absurd (no_some e)
 leaf_read at l (extended_values k) t v levels borrows_input c d e = extended_again at k t v levels c d e
-leaf_read at l raw_documents t v levels borrows_input c d e = absurd cc
-leaf_read at l raw_arrays t v levels borrows_input c d e = absurd cc
-leaf_read at l raw_values t v levels borrows_input c d e = absurd cc
+leaf_read at l raw_documents t v levels borrows_input c d e = absurd (no_some e)
+leaf_read at l raw_arrays t v levels borrows_input c d e = absurd (no_some e)
+leaf_read at l raw_values t v levels borrows_input c d e = absurd (no_some e)
 
 -- the same of a tree in memory, of which nothing is borrowed
 tree_leaf_read : (at : Sight) (l : Bool) (k : LeafKind) (t : Tree) (v : Value) (levels : ℕ) → IsLeafOwned l k → IsClean t → depth t ≤ levels → views_leaf k t ≡ Some v → ReadAs contents (read_leaf origins.Tree l k (tree_node at t levels)) v
@@ -132,10 +133,10 @@ tree_leaf_read at l characters t v levels owned c d e = leaf_read at l character
 tree_leaf_read at l byte_buffers t v levels owned c d e = leaf_read at l byte_buffers t v levels tt c d e
 tree_leaf_read at l units t v levels owned c d e = leaf_read at l units t v levels tt c d e
 tree_leaf_read at l (extended_values k) t v levels owned c d e = leaf_read at l (extended_values k) t v levels tt c d e
-tree_leaf_read at l ignored t v levels owned c d e = absurd cc
-tree_leaf_read at l raw_documents t v levels owned c d e = absurd cc
-tree_leaf_read at l raw_arrays t v levels owned c d e = absurd cc
-tree_leaf_read at l raw_values t v levels owned c d e = absurd cc
+tree_leaf_read at l ignored t v levels owned c d e = absurd (no_some e)
+tree_leaf_read at l raw_documents t v levels owned c d e = absurd (no_some e)
+tree_leaf_read at l raw_arrays t v levels owned c d e = absurd (no_some e)
+tree_leaf_read at l raw_values t v levels owned c d e = absurd (no_some e)
 
 leaf_read_from : (o : Origin) (at : Sight) (l : Bool) (k : LeafKind) (t : Tree) (v : Value) (levels : ℕ) → LeafSuits o at l k → IsClean t → depth t ≤ levels → views_leaf k t ≡ Some v → ReadAs contents (read_leaf o l k (tree_node at t levels)) v
 leaf_read_from origins.Bytes at l k t v levels suits c d e = leaf_read at l k t v levels suits c d e
@@ -145,7 +146,7 @@ leaf_read_from origins.Tree at l k t v levels suits c d e = tree_leaf_read at l 
 
 leaf_key_again : (at : Sight) (l : Bool) (k : LeafKind) (key : Utf8) (v : Value) → LeafBorrowed at l k → views_leaf_key k key ≡ Some v → (v ≡ value.str key) × ReadAs contents (read_leaf_with no_extended l k (node.string (piece at.texts key))) (value.str key)
 leaf_key_again at l texts key v borrows_input e = (sym (some_is (value.str key) v e), borrowed_text at l key (value.str key) borrows_input refl)
-leaf_key_again at l k key v borrows_input e = absurd cc
+leaf_key_again at l k key v borrows_input e = absurd (no_some e)
 
 -- what a text is as a key: the unit variant of that name, where the keys are an enum
 abbrev key_of : Form → Utf8 → Value
@@ -159,7 +160,7 @@ keys_apart s a b = refl
 key_again : (o : Origin) (at : Sight) (s : Form) → Suits o at s → ReadsKeys at (key_of s) (views_key s) (reads_key s)
 key_again o at (leaf l) suits key v e = leaf_key_again at (borrows l) (leaf_kind l) key v (suits_borrowed o at (borrows l) (leaf_kind l) suits) e
 key_again o at (enumeration vs) suits key v e = let u = unit_is key (content_of vs key) v e in (u.1, (value.unit_variant (made key), u.2, refl))
-key_again o at s suits key v e = absurd cc
+key_again o at s suits key v e = absurd (no_some e)
 
 -- ---- null, and what is not null
 
@@ -175,7 +176,7 @@ option_again at s t v levels r c inner e =
 
 unit_again : (o : Origin) (at : Sight) (name : Utf8) (t : Tree) (v : Value) (levels : ℕ) → views (unit_structure name) t ≡ Some v → ReadAs contents (reads_from o (unit_structure name) (tree_node at t levels)) v
 unit_again o at name null v levels e = (value.unit_structure (made name), refl, some_is (value.unit_structure name) v e)
-unit_again o at name t v levels e = absurd cc
+unit_again o at name t v levels e = absurd (no_some e)
 
 -- ---- documents and arrays
 
@@ -197,7 +198,7 @@ map_again o at key s (document ps) v levels suits each c d e =
     let read = λ (ns : Nodes). reads_entries (reads_key key) (reads_from o s) ns no_entries in
     let h = entries_again at (key_of key) (keys_apart key) (views_key key) (reads_key key) (views s) (reads_from o s) below (key_again o at key suits) each ps no_entries m.0 c (omega arith) (new_first (key_of key) ps) m.1 in
     (value.map h.0, ap (λ r. r >>= λ ns. result_map value.map (read ns)) (document_again at ps levels c d) ∙ ap (result_map value.map) h.1, ap value.map h.2 ∙ m.2)
-map_again o at key s t v levels suits each c d e = absurd cc
+map_again o at key s t v levels suits each c d e = absurd (no_some e)
 
 -- what a struct reads from a document is read by its keys
 keyed : (at : Sight) (u : UnknownFields) (slots : Slots) (ps : Pairs) (levels : ℕ) → depth (document ps) ≤ levels → read_structure u slots (tree_node at (document ps) levels) ≡ (fill u (pair_nodes at ps (levels - 1)) slots >>= finish)
@@ -210,7 +211,7 @@ SeesFields o at fs levels = (ps : Pairs) (vs : FieldValues) → ArePairsClean ps
 
 both_true : (a b : Bool) → (a && b) ≡ true → (a ≡ true) × (b ≡ true)
 both_true true b e = (refl, e)
-both_true false b e = absurd cc
+both_true false b e = absurd (false_no e)
 
 -- a key that no field names is dropped, and where it is denied there is none
 all_passed : (at : Sight) (u : UnknownFields) (fs : Fields) (ps : Pairs) (levels : ℕ) → ArePairsClean ps → pairs_depth ps ≤ levels → all_known u fs ps ≡ true → ArePassed at levels u fs ps
@@ -251,13 +252,13 @@ at_either P true t u o h g e = subst P (some_is t u e) h
 at_either P false t u o h g e = g e
 
 lookup_inside : (key : Utf8) (ps : Pairs) (t : Tree) (levels : ℕ) → ArePairsClean ps → pairs_depth ps ≤ levels → lookup key ps ≡ Some t → IsClean t × (depth t ≤ levels)
-lookup_inside key no_pairs t levels c d e = absurd cc
+lookup_inside key no_pairs t levels c d e = absurd (no_some e)
 lookup_inside key (pair k u ps) t levels c d e =
     at_either (λ x. IsClean x × (depth x ≤ levels)) (bytes_eq key k) u t (lookup key ps) (c.2, omega arith) (λ h. lookup_inside key ps t levels c.3 (omega arith) h) e
 
 absent_seen : (s : Form) (v : Value) → absent s ≡ Some v → (m : Marked) × (missing_value s ≡ Some m) × (contents m ≡ v)
 absent_seen (optional s) v e = (value.none, refl, some_is value.none v e)
-absent_seen s v e = absurd cc
+absent_seen s v e = absurd (no_some e)
 
 field_seen : (o : Origin) (at : Sight) (s : Form) (there : Option Tree) (v : Value) (levels : ℕ) → ((t : Tree) → there ≡ Some t → views s t ≡ Some v → ReadAs contents (reads_from o s (tree_node at t levels)) v)
     → views_at (views s) (absent s) there ≡ Some v → (m : Marked) × (seen_at o at levels s there ≡ Some m) × (contents m ≡ v)
@@ -289,7 +290,7 @@ enum_again origins.Tree at vs (document (pair name t no_pairs)) v (suc n) each c
     let below : suc n - 1 ≡ n = omega arith in
     let h = each name t v c.2 (omega arith) e in
     (h.0, ap (λ m. reads_variant origins.Tree vs name (tree_node at t m)) (sym below) ∙ h.1, h.2)
-enum_again o at vs t v levels each c d e = absurd cc
+enum_again o at vs t v levels each c d e = absurd (no_some e)
 
 -- the contents of a tuple variant, which have a part where they are taken from a tree
 tuple_content_again : (o : Origin) (at : Sight) (n : Utf8) (ps : Parts) (ts : Trees) (v : Value) (levels : ℕ) → HasParts o ps
@@ -298,7 +299,7 @@ tuple_content_again : (o : Origin) (at : Sight) (n : Utf8) (ps : Parts) (ts : Tr
     → ReadAs contents (judged (tree_node at (array ts) levels) >>= array_of >>= λ ns. tuple_content_at o (λ ms. result_map (value.tuple_variant (made n)) (reads_parts o ps 0 ms)) ns) v
 tuple_content_again origins.Bytes at n ps ts v levels has all c d e = parts_again at (value.tuple_variant n) (value.tuple_variant (made n)) (views_parts ps) (reads_parts origins.Bytes ps 0) ts v levels (λ x. refl) all c d e
 tuple_content_again origins.Tree at n no_parts ts v levels has all c d e = absurd has
-tuple_content_again origins.Tree at n (part s ps) no_trees v levels has all c d e = absurd cc
+tuple_content_again origins.Tree at n (part s ps) no_trees v levels has all c d e = absurd (no_some e)
 tuple_content_again origins.Tree at n (part s ps) (tree t ts) v levels has all c d e =
     let read = reads_parts origins.Tree (part s ps) 0 in
     let m = some_map (value.tuple_variant n) (views_parts (part s ps) (tree t ts)) v e in
@@ -327,9 +328,9 @@ mutual
   reads_back o at (leaf w) t v levels p suits c d e = let h = leaf_read_from o at (borrows w) (leaf_kind w) t v levels suits c d e in (h.0, ap (λ r. r >>= read_leaf o (borrows w) (leaf_kind w)) (judged_again at t levels c d) ∙ h.1, h.2)
   reads_back o at (optional s) t v levels p suits c d e = option_again at s t v levels (reads_from o s (tree_node at t levels)) (clean_coded t c) (λ w h. reads_back o at s t w levels p suits c d h) e
   reads_back o at (lossy s) t v levels p suits c d e = lossy_again o at s t v levels (clean_coded t c) (reads_back o (marked_at o at) s t v levels p suits c d e)
-  reads_back o at (human_readable s) t v levels p suits c d e = absurd cc
-  reads_back o at (by_mode readable compact) t v levels p suits c d e = absurd cc
-  reads_back o at (reference name) t v levels p suits c d e = absurd cc
+  reads_back o at (human_readable s) t v levels p suits c d e = absurd (no_some e)
+  reads_back o at (by_mode readable compact) t v levels p suits c d e = absurd (no_some e)
+  reads_back o at (reference name) t v levels p suits c d e = absurd (no_some e)
   reads_back o at (definitions h s) t v levels p suits c d e = reads_back o at s t v levels p suits c d e
   reads_back o at (newtype name s) t v levels p suits c d e =
       let m = some_map (value.newtype name) (views s t) v e in
@@ -339,18 +340,18 @@ mutual
   reads_back o at (sequence s) (array ts) v levels p suits c d e =
       parts_again at value.sequence value.sequence (views_items (views s)) (reads_items (reads_from o s) 0) ts v levels (λ x. refl)
       (λ vs c' d' h. items_again at (views s) (reads_from o s) (levels - 1) (λ u w. reads_back o at s u w (levels - 1) p suits) 0 ts vs c' d' h) c d e
-  reads_back o at (sequence s) t v levels p suits c d e = absurd cc
+  reads_back o at (sequence s) t v levels p suits c d e = absurd (no_some e)
   reads_back o at (map key s) t v levels p suits c d e = map_again o at key s t v levels suits.0 (λ u w. reads_back o at s u w (levels - 1) p.2 suits.1) c d e
   reads_back o at (structure u name fs) (document qs) v levels p suits c d e =
       let k = where_known (all_known u fs qs) (option_map (value.structure name) (views_fields fs qs)) v e in
       fields_again o at u (read_structure u) (value.structure name) (value.structure (made name)) fs qs v levels (keyed at u) (λ x. refl) p.0.distinct (λ ps vs c' d' h. sees_fields_again o at fs ps vs (levels - 1) p.1 suits c' d' h) c d k.0 k.1
-  reads_back o at (structure u name fs) t v levels p suits c d e = absurd cc
+  reads_back o at (structure u name fs) t v levels p suits c d e = absurd (no_some e)
   reads_back o at (tuple ps) (array ts) v levels p suits c d e =
       parts_again at value.tuple value.tuple (views_parts ps) (reads_parts o ps 0) ts v levels (λ x. refl) (λ vs c' d' h. reads_parts_again o at ps 0 ts vs (levels - 1) p suits c' d' h) c d e
-  reads_back o at (tuple ps) t v levels p suits c d e = absurd cc
+  reads_back o at (tuple ps) t v levels p suits c d e = absurd (no_some e)
   reads_back o at (tuple_structure name ps) (array ts) v levels p suits c d e =
       parts_again at (value.tuple_structure name) (value.tuple_structure (made name)) (views_parts ps) (reads_parts o ps 0) ts v levels (λ x. refl) (λ vs c' d' h. reads_parts_again o at ps 0 ts vs (levels - 1) p.1 suits c' d' h) c d e
-  reads_back o at (tuple_structure name ps) t v levels p suits c d e = absurd cc
+  reads_back o at (tuple_structure name ps) t v levels p suits c d e = absurd (no_some e)
   reads_back o at (enumeration vs) t v levels p suits c d e = enum_again o at vs t v levels (λ name u w. reads_variant_again o at vs name u w (levels - 1) p.1 suits) c d e
 
   sees_fields_again : (o : Origin) (at : Sight) (fs : Fields) (ps : Pairs) (vs : FieldValues) (levels : ℕ) → AreShapes fs → FieldsSuit o at fs → ArePairsClean ps → pairs_depth ps ≤ levels → views_fields fs ps ≡ Some vs → (out : MarkedFields) × (seen_fields o at levels fs ps ≡ Some out) × (field_contents out ≡ vs)
@@ -376,26 +377,26 @@ mutual
         ap (λ r. under_index i r >>= λ v. result_map (item v) (reads_parts o ps (suc i) (tree_nodes at (suc i) ts levels))) first.1 ∙ ap (result_map (item first.0)) rest.1,
         (λ j. item (first.2 j) (rest.2 j)) ∙ b.2,
       )
-  reads_parts_again o at ps i ts vs levels p suits c d e = absurd cc
+  reads_parts_again o at ps i ts vs levels p suits c d e = absurd (no_some e)
 
   reads_variant_again : (o : Origin) (at : Sight) (vs : Variants) (name : Utf8) (t : Tree) (v : Value) (levels : ℕ) → AreVariants vs → VariantsSuit o at vs → IsClean t → depth t ≤ levels → views_variant vs name t ≡ Some v → ReadAs contents (reads_variant o vs name (tree_node at t levels)) v
-  reads_variant_again o at no_variants name t v levels p suits c d e = absurd cc
+  reads_variant_again o at no_variants name t v levels p suits c d e = absurd (no_some e)
   reads_variant_again o at (variant n x vs) name t v levels p suits c d e =
       chosen_read (bytes_eq n name) (views_content n x t) (views_variant vs name t) (reads_content o n x (tree_node at t levels)) (reads_variant o vs name (tree_node at t levels)) v e
       (λ h. reads_content_again o at x n t v levels p.1 suits.0 c d h) (λ h. reads_variant_again o at vs name t v levels p.2 suits.1 c d h)
 
   reads_content_again : (o : Origin) (at : Sight) (x : Content) (n : Utf8) (t : Tree) (v : Value) (levels : ℕ) → IsContent x → ContentSuits o at x → IsClean t → depth t ≤ levels → views_content n x t ≡ Some v → ReadAs contents (reads_content o n x (tree_node at t levels)) v
-  reads_content_again o at unit_content n t v levels p suits c d e = absurd cc
+  reads_content_again o at unit_content n t v levels p suits c d e = absurd (no_some e)
   reads_content_again o at (newtype_content s) n t v levels p suits c d e =
       let m = some_map (value.newtype_variant n) (views s t) v e in
       let h = reads_back o at s t m.0 levels p suits c d m.1 in
       (value.newtype_variant (made n) h.0, ap (λ r. under n (result_map (value.newtype_variant (made n)) r)) h.1, ap (value.newtype_variant n) h.2 ∙ m.2)
   reads_content_again o at (tuple_content ps) n (array ts) v levels p suits c d e =
       under_read n _ v (tuple_content_again o at n ps ts v levels suits.0 (λ vs c' d' h. reads_parts_again o at ps 0 ts vs (levels - 1) p suits.1 c' d' h) c d e)
-  reads_content_again o at (tuple_content ps) n t v levels p suits c d e = absurd cc
+  reads_content_again o at (tuple_content ps) n t v levels p suits c d e = absurd (no_some e)
   reads_content_again o at (struct_content fs) n (document qs) v levels p suits c d e =
       under_read n _ v (fields_again o at dropped (struct_content_at o) (value.structure_variant n) (value.structure_variant (made n)) fs qs v levels (content_keyed o at) (λ x. refl) p.0 (λ ps vs c' d' h. sees_fields_again o at fs ps vs (levels - 1) p.1 suits c' d' h) c d refl e)
-  reads_content_again o at (struct_content fs) n t v levels p suits c d e = absurd cc
+  reads_content_again o at (struct_content fs) n t v levels p suits c d e = absurd (no_some e)
 
 -- what a clean tree is at a shape is read from it in bytes
 pub reads_again : (at : Sight) (s : Form) (t : Tree) (v : Value) (levels : ℕ) → IsShape s → IsBorrowed at s → IsClean t → depth t ≤ levels → views s t ≡ Some v → ReadAs contents (in_bytes.reads s (tree_node at t levels)) v

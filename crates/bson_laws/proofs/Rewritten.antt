@@ -31,6 +31,7 @@ use Rattle.bson_laws.proofs.Free.{free_spelled, free_struct}
 use Rattle.bson_laws.proofs.Writable.{wide_small, short_small, taken, binary_written, unless_bind, unless_map, unless_inside, unless_named, Written, number_written, bytes_written, enclosed_written, variant_written}
 use Rattle.std.specs.Str.{bytes_eq}
 use Rattle.bson_kinds.proofs.Outcomes.{some_is}
+use Rattle.bson_kinds.proofs.Apart.{no_some, true_no}
 
 -- ---- items, entries and fields
 
@@ -57,7 +58,7 @@ next_written name v fs free w ws levels =
     unless_bind (named name (spell v levels)) _ (unless_named name (spell v levels) free (w levels)) (λ t. unless_bind (spell_fields fs levels) _ (ws levels) (λ ps. tt))
 
 free_written : (b : Bool) (f : Refusal WriteFault) (key : Utf8) → b ≡ false → IsWrittenUnlessLarge {A = Utf8} (cond b (Err f) (Ok key))
-free_written true f key e = absurd cc
+free_written true f key e = absurd (true_no e)
 free_written false f key e = tt
 
 -- a text without a zero is written as a key
@@ -174,7 +175,7 @@ chosen_writable false c d o p e h = h e
 
 -- the contents of a variant have writable keys
 content_writable : (vs : Variants) (name : Utf8) (c : Content) → AreVariants vs → VariantsHaveWritableKeys vs → content_of vs name ≡ Some c → IsContent c × ContentHasWritableKeys c
-content_writable no_variants name c p w e = absurd cc
+content_writable no_variants name c p w e = absurd (no_some e)
 content_writable (variant n d vs) name c p w e = chosen_writable (bytes_eq n name) d c (content_of vs name) (p.1, w.0) e (content_writable vs name c p.2 w.1)
 
 -- ---- all values

@@ -10,6 +10,7 @@ use Rattle.bson_laws.specs.Slots.{missing_value}
 use Rattle.bson_laws.specs.Variants.{content_of}
 use Rattle.bson_laws.specs.Views.{absent}
 use Rattle.bson_laws.specs.Writable.{HasWritableKeys, FieldsHaveWritableKeys, DefinitionsHaveWritableKeys, PartsHaveWritableKeys, VariantsHaveWritableKeys, ContentHasWritableKeys}
+use Rattle.bson_kinds.proofs.Apart.{no_some}
 
 mutual
   pub settled_same : (r : Bool) (s : Form) → IsSettled s → settled r s ≡ s
@@ -131,7 +132,7 @@ chosen_settled false c d o p e h = h e
 
 -- the contents of a variant
 pub content_settled : (vs : Variants) (name : Utf8) (c : Content) → AreVariantsSettled vs → content_of vs name ≡ Some c → IsContentSettled c
-content_settled no_variants name c p e = absurd cc
+content_settled no_variants name c p e = absurd (no_some e)
 content_settled (variant n d vs) name c p e = chosen_settled (bytes_eq n name) d c (content_of vs name) p.0 e (content_settled vs name c p.1)
 
 -- ---- missing fields

@@ -30,6 +30,7 @@ use Rattle.bson_laws.proofs.GivenRaw.{a_document, an_array, a_tree, a_binary, a_
 use Rattle.bson_laws.proofs.GivenTrees.{IsGivenTree, ArePairsGiven, AreTreesGiven, IsGivenExtended}
 use Rattle.bson_laws.proofs.Borrowed.{marked}
 use Rattle.bson_laws.proofs.Writable.{IsSmall, wide_small, short_small}
+use Rattle.bson_kinds.proofs.Apart.{true_no}
 
 -- ---- values whose numbers an Int64 holds
 
@@ -83,7 +84,7 @@ numbered : (k : ElementType) (n : ℤ) → IsSmall n → HoldsNumbers (spell_num
 numbered Int32 n e = tt
 numbered k n e = either _ n e where
   either : (b : Bool) (n : ℤ) → b ≡ false → HoldsNumbers (cond b (Err (here (unsigned_exceeds n))) (Ok (int64 n)))
-  either true n e = absurd cc
+  either true n e = absurd (true_no e)
   either false n e = tt
 
 counted : (b : Bool) (n : ℕ) (t : Tree) → HoldsNumbers (cond b (Err (here (unwritable (binary_too_long n)))) (Ok t))

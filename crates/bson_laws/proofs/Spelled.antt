@@ -24,6 +24,7 @@ use Rattle.bson_laws.specs.Spell.{named, variant_at, written_key, spell_entries,
 use Rattle.bson_laws.proofs.Alike.{AreAlike, Both, IsScope, SameScope, scopes_alike}
 use Rattle.bson_laws.proofs.Free.{free_spelled}
 use Rattle.bson_laws.proofs.Sizes.{spell_kind, length-spell}
+use Rattle.bson_kinds.proofs.Apart.{no_some, true_no}
 
 abbrev pub pairs_found : Pairs → Option Pairs
 pairs_found t = Some t
@@ -38,7 +39,7 @@ pub tree_is : (t u : Tree) → found t ≡ found u → t ≡ u
 tree_is t u e = cc
 
 wide_spelled : (b : Bool) (f : Refusal WriteFault) (n : ℤ) (t : Tree) → cond b None (found (int64 n)) ≡ Some t → cond b (Err f) (Ok (int64 n)) ≡ Ok t
-wide_spelled true f n t e = absurd cc
+wide_spelled true f n t e = absurd (no_some e)
 wide_spelled false f n t e = ap Ok (tree_is (int64 n) t e)
 
 number_spelled : (k : ElementType) (n : ℤ) (t : Tree) → number_of k n ≡ Some t → spell_number k n ≡ Ok t
@@ -46,7 +47,7 @@ number_spelled Int32 n t e = ap Ok (tree_is (int32 n) t e)
 number_spelled k n t e = wide_spelled _ _ n t e
 
 allowed : (b : Bool) (f : Refusal WriteFault) (t : Tree) → b ≡ false → cond b (Err f) (Ok t) ≡ Ok t
-allowed true f t e = absurd cc
+allowed true f t e = absurd (true_no e)
 allowed false f t e = refl
 
 -- a binary that is clean is written
@@ -54,7 +55,7 @@ pub binary_spelled : (subtype : ℕ) (bs : Bytes) → IsClean (binary subtype bs
 binary_spelled subtype bs c = allowed _ _ (binary subtype bs) (le-ltb _ _ c.fits)
 
 pub free_newtype : (b : Bool) (r : Option Tree) (t : Tree) → cond b None r ≡ Some t → (b ≡ false) × (r ≡ Some t)
-free_newtype true r t e = absurd cc
+free_newtype true r t e = absurd (no_some e)
 free_newtype false r t e = (refl, e)
 
 -- a newtype that means something is a UUID, or its name is not reserved
@@ -90,7 +91,7 @@ trees_are ts us e = cc
 
 ok_of : (r : Writing Tree) (t : Tree) → result_ok r ≡ Some t → r ≡ Ok t
 ok_of (Ok u) t e = ap Ok (tree_is u t e)
-ok_of (Err f) t e = absurd cc
+ok_of (Err f) t e = absurd (no_some e)
 
 -- ---- reserved structs
 

@@ -14,6 +14,7 @@ use Rattle.bson_laws.specs.Judged.{Reading, refused, with_level, faultless, judg
 use Rattle.bson_laws.specs.Taken.{owned_under_mark, document_of, array_of}
 use Rattle.bson_laws.proofs.Coded.{IsName}
 use Rattle.bson_laws.proofs.Framed.{IsFramed}
+use Rattle.bson_kinds.proofs.Apart.{no_ok}
 
 -- what can be borrowed of a text can be borrowed of one that is seen so, as a text and as bytes
 abbrev pub IsTextSeen : Sight → Piece → Type 0
@@ -61,12 +62,12 @@ abbrev mutual
 -- ---- a judged value is the value
 
 level_is : (n m : Node) → with_level n ≡ Ok m → n ≡ m
-level_is (too_deep k) m e = absurd cc
+level_is (too_deep k) m e = absurd (no_ok e)
 level_is n m e = ok_is n m e
 
 faultless_is : (o : Option Error) (n m : Node) → faultless o n ≡ Ok m → n ≡ m
 faultless_is None n m e = level_is n m e
-faultless_is (Some f) n m e = absurd cc
+faultless_is (Some f) n m e = absurd (no_ok e)
 
 pub judged_is : (n m : Node) → judged n ≡ Ok m → n ≡ m
 judged_is n m e = faultless_is (fault n) n m e
@@ -88,8 +89,8 @@ judged_then n read x e = let j = bind_ok (judged n) (λ _. read n) x e in ap (λ
 pub document_tame : (at : Sight) (n : Node) (ns : Nodes) → IsTame at n → document_of n ≡ Ok ns → AreTame at ns
 document_tame at (document slice ms) ns t e = subst (AreTame at) (ok_is ms ns e) t.1
 document_tame at (extended x ms) ns t e = subst (AreTame at) (ok_is ms ns e) t.1
-document_tame at n ns t e = absurd cc
+document_tame at n ns t e = absurd (no_ok e)
 
 pub array_tame : (at : Sight) (n : Node) (ns : Nodes) → IsTame at n → array_of n ≡ Ok ns → AreTame at ns
 array_tame at (array slice ms) ns t e = subst (AreTame at) (ok_is ms ns e) t.1
-array_tame at n ns t e = absurd cc
+array_tame at n ns t e = absurd (no_ok e)

@@ -14,6 +14,7 @@ use Rattle.bson_rawdoc.specs.Node.{Node, Extended, binary, undefined, object_id,
 use Rattle.bson_rawdoc.specs.Piece.{Piece, made}
 use Rattle.bson_laws.specs.RawFree.{IsRawFree, ArePairsRawFree, AreTreesRawFree}
 use Rattle.bson_laws.specs.Unmarked.{with_document, unmarked, unmarked_pairs, unmarked_trees, AreOpenedAlike}
+use Rattle.bson_kinds.proofs.Apart.{no_some}
 
 -- ---- trees
 
@@ -60,7 +61,7 @@ scope_alike : (code : Piece) (scope : Node) (s t : Tree) → unmarked scope ≡ 
 scope_alike code scope (tree.document ps) t is e =
     same_tree (javascript_code_with_scope code scope) (tree.javascript_code_with_scope code.bytes ps) t
     (ap (λ o. option_map (pair (codes "$code") (tree.string code.bytes)) (option_and_then (λ u. option_map (pair (codes "$scope") u) (Some no_pairs)) o)) is) e
-scope_alike code scope s t is e = absurd cc
+scope_alike code scope s t is e = absurd (no_some e)
 
 pub opened_alike : AreOpenedAlike
 opened_alike (binary zero b) t e extended = absurd (subst IsExtended (sym (some_is (tree.binary 0 b.bytes) t e)) extended refl)

@@ -22,6 +22,7 @@ use Rattle.bson_laws.proofs.Judged.{ReadAs, judged_again}
 use Rattle.bson_laws.proofs.Borrowed.{owned_same}
 use Rattle.bson_laws.proofs.Items.{ReadsBack, items_again}
 use Rattle.bson_laws.proofs.Entries.{new_first, entries_again}
+use Rattle.bson_kinds.proofs.Apart.{no_some}
 
 -- ---- items and entries, each of them viewed and read without a shape
 
@@ -66,7 +67,7 @@ flat_again at (binary zero bs) v levels d e = (value.bytes (owned_under_mark at.
 flat_again at null v levels d e = (value.unit, refl, some_is value.unit v e)
 flat_again at (array ts) v levels d e = absurd (omega arith)
 flat_again at (document ps) v levels d e = absurd (omega arith)
-flat_again at t v levels d e = absurd cc
+flat_again at t v levels d e = absurd (no_some e)
 
 pub any_again : (at : Sight) (levels : ℕ) (t : Tree) (v : Value) → IsClean t → depth t ≤ levels → views_any t ≡ Some v → ReadAs contents (read_any (tree_node at t levels)) v
 any_again at zero t v c d e = flat_again at t v zero d e
@@ -80,5 +81,5 @@ any_again at (suc n) (document ps) v c d e =
     let each : ReadsBack at views_any reads_any n = λ u w c' d' h. let r = any_again at n u w c' d' h in (r.0, ap (λ x. x >>= λ _. read_any (tree_node at u n)) (judged_again at u n c' d') ∙ r.1, r.2) in
     let h = entries_again at value.str (λ a b. refl) view_text key_text views_any reads_any n (λ key k is. (sym (some_is (value.str key) k is), (value.str (piece at.texts key), refl, refl))) each ps no_entries m.0 c (omega arith) (new_first value.str ps) (sym (viewed_entries ps) ∙ m.1) in
     (value.map h.0, ap (result_map value.map) (entries_any (pair_nodes at ps n) no_entries ∙ h.1), ap value.map h.2 ∙ m.2)
-any_again at (suc n) (javascript_code_with_scope code scope) v c d e = absurd cc
+any_again at (suc n) (javascript_code_with_scope code scope) v c d e = absurd (no_some e)
 any_again at (suc n) t v c d e = flat_again at t v (suc n) (omega arith) e

@@ -12,11 +12,12 @@ use Rattle.bson_rawdoc.specs.Piece.{made}
 use Rattle.bson_laws.specs.Containers.{unit_of}
 use Rattle.bson_laws.specs.Fits.{Fits, PartsFit, FieldsFit}
 use Rattle.bson_laws.proofs.Fitted.{bytes_same}
+use Rattle.bson_kinds.proofs.Apart.{no_some}
 
 -- a text that names a unit variant is that variant, and is read as it
 pub unit_is : (name : Utf8) (o : Option Content) (v : Value) → named_unit name o ≡ Some v → (o ≡ Some unit_content) × (v ≡ value.unit_variant name) × (unit_of name o ≡ Ok (value.unit_variant (made name)))
 unit_is name (Some unit_content) v e = (refl, sym (some_is (value.unit_variant name) v e), refl)
-unit_is name o v e = absurd cc
+unit_is name o v e = absurd (no_some e)
 
 -- ---- by the first variant of a name, or by those behind it
 

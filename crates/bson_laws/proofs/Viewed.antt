@@ -44,18 +44,19 @@ use Rattle.bson_laws.proofs.Free.{free_norm, free_struct_name}
 use Rattle.bson_laws.proofs.Known.{where_known}
 use Rattle.bson_laws.proofs.Fitting.{leaf_fits, lossy_fits, body_fits}
 use Rattle.bson_laws.proofs.Variants.{unit_is, chosen_holds, FitsContent, FitsVariant, chosen_fits, variant_fits}
+use Rattle.bson_kinds.proofs.Apart.{no_some}
 
 -- ---- numbers and characters
 
 pub in_range_or : (type : IntegerType) (n : ℤ) (b : Bool) (v : Value) → cond b (Some (value.integer type n)) None ≡ Some v → (cond b (Ok (value.integer type n)) (refused (out_of_range n)) ≡ Ok v) × (b ≡ true) × (v ≡ value.integer type n)
 in_range_or type n true v e = (ap Ok cc, refl, cc)
-in_range_or type n false v e = absurd cc
+in_range_or type n false v e = absurd (no_some e)
 
 -- the one character of a list of characters is one of them
 pub one_scalar : (cs : List ℕ) (c : ℕ) → scalars cs ≡ true → one_character cs ≡ Some c → IsScalar c
-one_scalar [] c s e = absurd cc
+one_scalar [] c s e = absurd (no_some e)
 one_scalar (d ∷ []) c s e = subst IsScalar (some_is d c e) (sym (and-true (scalar d)) ∙ s)
-one_scalar (d ∷ x ∷ cs) c s e = absurd cc
+one_scalar (d ∷ x ∷ cs) c s e = absurd (no_some e)
 
 -- ---- without a shape
 
@@ -79,7 +80,7 @@ mutual
   any_fits null v c e = subst IsAny (some_is value.unit v e) tt
   any_fits (array ts) v c e = let m = some_map value.sequence (views_any_items ts) v e in subst IsAny m.2 (any_items_fit ts m.0 c m.1)
   any_fits (document ps) v c e = let m = some_map value.map (views_any_entries ps) v e in subst IsAny m.2 (any_entries_fit ps m.0 c m.1)
-  any_fits t v c e = absurd cc
+  any_fits t v c e = absurd (no_some e)
 
   any_items_fit : (ts : Trees) (vs : Items) → AreTreesClean ts → views_any_items ts ≡ Some vs → AreAnyItems vs
   any_items_fit no_trees vs c e = subst AreAnyItems (some_is no_items vs e) tt
@@ -103,49 +104,49 @@ sorted_value t v c e = record { tree = sorted_tree t; ranges = sorted_in_range t
 
 kind_taken : (b : Bool) (k : ElementType) (t : Tree) (v : Value) → IsClean t → nat_eq (byte (kind t)) (byte k) ≡ b → cond b (Some (datum itself (sorted_tree t))) None ≡ Some v → IsValueOfKind k v
 kind_taken true k t v c is e = record { of_tree = sorted_value t v c e; has_kind = sorted_kind t ∙ same_kind (kind t) k is }
-kind_taken false k t v c is e = absurd cc
+kind_taken false k t v c is e = absurd (no_some e)
 
 uuid_taken : (a b : Bool) (bs : Bytes) (v : Value) → AreBytes bs → nat_eq (length bs) 16 ≡ b → cond (a && b) (Some (uuid_datum itself bs)) None ≡ Some v → IsUuidValue v
 uuid_taken true true bs v h is e = record { id = bs; sixteen = record { are_bytes = h; count = grind (arith, nat_tests, is) }; is_datum = some_is (uuid_datum itself bs) v e }
-uuid_taken true false bs v h is e = absurd cc
-uuid_taken false b bs v h is e = absurd cc
+uuid_taken true false bs v h is e = absurd (no_some e)
+uuid_taken false b bs v h is e = absurd (no_some e)
 
 extended_taken : (k : ExtendedLeaf) (t : Tree) (v : Value) → IsClean t → views_extended k t ≡ Some v → FitsExtended k v
 extended_taken object_ids (tree.object_id id) v c e = record { of_tree = sorted_value (tree.object_id id) v c e; has_kind = refl }
-extended_taken object_ids t v c e = absurd cc
+extended_taken object_ids t v c e = absurd (no_some e)
 extended_taken uuids (binary n b) v c e = uuid_taken (nat_eq n 4) (nat_eq (length b) 16) b v c.are_bytes refl e
-extended_taken uuids t v c e = absurd cc
+extended_taken uuids t v c e = absurd (no_some e)
 extended_taken (of_kind k) t v c e = kind_taken (nat_eq (byte (kind t)) (byte k)) k t v c refl e
 extended_taken trees t v c e = sorted_value t v c e
 extended_taken documents (document ps) v c e = record { of_tree = sorted_value (document ps) v c e; has_kind = refl }
-extended_taken documents t v c e = absurd cc
+extended_taken documents t v c e = absurd (no_some e)
 
 leaf_taken : (k : LeafKind) (t : Tree) (v : Value) → IsClean t → views_leaf k t ≡ Some v → FitsLeaf k v
 leaf_taken anything t v c e = any_fits t v c e
-leaf_taken ignored t v c e = absurd cc
+leaf_taken ignored t v c e = absurd (no_some e)
 leaf_taken booleans (boolean b) v c e = subst (FitsLeaf booleans) (some_is (value.boolean b) v e) tt
-leaf_taken booleans t v c e = absurd cc
+leaf_taken booleans t v c e = absurd (no_some e)
 leaf_taken (numbers type) (int32 n) v c e = let r = in_range_or type n (in_range type n) v e in subst (FitsLeaf (numbers type)) (sym r.2) (refl, r.1)
 leaf_taken (numbers type) (int64 n) v c e = let r = in_range_or type n (in_range type n) v e in subst (FitsLeaf (numbers type)) (sym r.2) (refl, r.1)
-leaf_taken (numbers type) t v c e = absurd cc
+leaf_taken (numbers type) t v c e = absurd (no_some e)
 leaf_taken doubles (double bits) v c e = subst (FitsLeaf doubles) (some_is (value.double bits) v e) c
-leaf_taken doubles t v c e = absurd cc
+leaf_taken doubles t v c e = absurd (no_some e)
 leaf_taken characters (string t) v c e =
     let m = some_map value.character (one_character (chars t)) v e in
     subst (FitsLeaf characters) m.2 (one_scalar (chars t) m.0 (scalars-chars t (IsUtf8-from_is_utf8 t c)) m.1)
-leaf_taken characters t v c e = absurd cc
+leaf_taken characters t v c e = absurd (no_some e)
 leaf_taken texts (string t) v c e = subst (FitsLeaf texts) (some_is (value.str t) v e) c
-leaf_taken texts t v c e = absurd cc
+leaf_taken texts t v c e = absurd (no_some e)
 leaf_taken byte_strings (binary zero bs) v c e = subst (FitsLeaf byte_strings) (some_is (value.bytes bs) v e) c.are_bytes
-leaf_taken byte_strings t v c e = absurd cc
+leaf_taken byte_strings t v c e = absurd (no_some e)
 leaf_taken byte_buffers (binary zero bs) v c e = subst (FitsLeaf byte_buffers) (some_is (value.bytes bs) v e) c.are_bytes
 leaf_taken byte_buffers t v c e = absurd cc
 leaf_taken units null v c e = subst (FitsLeaf units) (some_is value.unit v e) tt
-leaf_taken units t v c e = absurd cc
+leaf_taken units t v c e = absurd (no_some e)
 leaf_taken (extended_values k) t v c e = extended_taken k t v c e
-leaf_taken raw_documents t v c e = absurd cc
-leaf_taken raw_arrays t v c e = absurd cc
-leaf_taken raw_values t v c e = absurd cc
+leaf_taken raw_documents t v c e = absurd (no_some e)
+leaf_taken raw_arrays t v c e = absurd (no_some e)
+leaf_taken raw_values t v c e = absurd (no_some e)
 
 -- ---- options and missing fields
 
@@ -155,7 +156,7 @@ option_fits s t v inner e = let m = some_map value.some (views s t) v e in subst
 
 absent_fits : (s : Form) (v : Value) → absent s ≡ Some v → Fits v s
 absent_fits (optional s) v e = subst (λ x. Fits x (optional s)) (some_is value.none v e) tt
-absent_fits s v e = absurd cc
+absent_fits s v e = absurd (no_some e)
 
 field_fits : (s : Form) (o : Option Tree) (v : Value) → ((t : Tree) → o ≡ Some t → views s t ≡ Some v → Fits v s) → views_at (views s) (absent s) o ≡ Some v → Fits v s
 field_fits s None v found e = absent_fits s v e
@@ -171,7 +172,7 @@ clean_either true t u o c h e = subst IsClean (some_is t u e) c
 clean_either false t u o c h e = h e
 
 lookup_clean : (key : Utf8) (ps : Pairs) (t : Tree) → ArePairsClean ps → lookup key ps ≡ Some t → IsClean t
-lookup_clean key no_pairs t c e = absurd cc
+lookup_clean key no_pairs t c e = absurd (no_some e)
 lookup_clean key (pair k u ps) t c e = clean_either (bytes_eq key k) u t (lookup key ps) c.2 (λ h. lookup_clean key ps t c.3 h) e
 
 -- the values of an array fit the shape of its items
@@ -185,12 +186,12 @@ items_fit s each (tree.tree t ts) vs c e =
 -- a key that is a text fits the shape of the keys
 leaf_key_fits : (k : LeafKind) (key : Utf8) (v : Value) → is_utf8 key ≡ true → views_leaf_key k key ≡ Some v → FitsLeafKey k v
 leaf_key_fits texts key v u e = subst IsText (some_is (value.str key) v e) u
-leaf_key_fits k key v u e = absurd cc
+leaf_key_fits k key v u e = absurd (no_some e)
 
 key_fits : (s : Form) (key : Utf8) (v : Value) → is_utf8 key ≡ true → views_key s key ≡ Some v → FitsKey s v
 key_fits (leaf l) key v u e = leaf_key_fits (leaf_kind l) key v u e
 key_fits (enumeration vs) key v u e = let h = unit_is key (content_of vs key) v e in subst (FitsKey (enumeration vs)) (sym h.1) h.0
-key_fits s key v u e = absurd cc
+key_fits s key v u e = absurd (no_some e)
 
 -- the pairs of a document fit the shapes of the keys and of the values
 entries_fit : (key s : Form) → ((t : Tree) (v : Value) → IsClean t → views s t ≡ Some v → Fits v s) → (ps : Pairs) (es : Entries) → ArePairsClean ps → views_entries (views_key key) (views s) ps ≡ Some es → EntriesFit es key s
@@ -206,39 +207,39 @@ mutual
   views_fit (leaf l) t v c e = leaf_fits v l (leaf_taken (leaf_kind l) t v c e)
   views_fit (optional s) t v c e = option_fits s t v (λ w h. views_fit s t w c h) e
   views_fit (lossy s) t v c e = lossy_fits v s (views_fit s t v c e)
-  views_fit (human_readable s) t v c e = absurd cc
-  views_fit (by_mode readable compact) t v c e = absurd cc
-  views_fit (reference name) t v c e = absurd cc
+  views_fit (human_readable s) t v c e = absurd (no_some e)
+  views_fit (by_mode readable compact) t v c e = absurd (no_some e)
+  views_fit (reference name) t v c e = absurd (no_some e)
   views_fit (definitions h s) t v c e = body_fits v h s (views_fit s t v c e)
   views_fit (newtype name s) t v c e =
       let m = some_map (value.newtype name) (views s t) v e in
       subst (λ x. Fits x (newtype name s)) m.2 (refl, views_fit s t m.0 c m.1)
   views_fit (unit_structure name) null v c e = subst (λ x. Fits x (unit_structure name)) (some_is (value.unit_structure name) v e) refl
-  views_fit (unit_structure name) t v c e = absurd cc
+  views_fit (unit_structure name) t v c e = absurd (no_some e)
   views_fit (sequence s) (array ts) v c e =
       let b = some_map value.sequence (views_items (views s) ts) v e in
       subst (λ x. Fits x (sequence s)) b.2 (items_fit s (λ t w. views_fit s t w) ts b.0 c b.1)
-  views_fit (sequence s) t v c e = absurd cc
+  views_fit (sequence s) t v c e = absurd (no_some e)
   views_fit (map key s) (document ps) v c e =
       let b = some_map value.map (views_entries (views_key key) (views s) ps) v e in
       subst (λ x. Fits x (map key s)) b.2 (entries_fit key s (λ t w. views_fit s t w) ps b.0 c b.1)
-  views_fit (map key s) t v c e = absurd cc
+  views_fit (map key s) t v c e = absurd (no_some e)
   views_fit (structure u name fs) (document ps) v c e =
       let k = where_known (all_known u fs ps) (option_map (value.structure name) (views_fields fs ps)) v e in
       let b = some_map (value.structure name) (views_fields fs ps) v k.1 in
       subst (λ x. Fits x (structure u name fs)) b.2 (refl, views_fields_fit fs ps b.0 c b.1)
-  views_fit (structure u name fs) t v c e = absurd cc
+  views_fit (structure u name fs) t v c e = absurd (no_some e)
   views_fit (tuple ps) (array ts) v c e =
       let b = some_map value.tuple (views_parts ps ts) v e in
       subst (λ x. Fits x (tuple ps)) b.2 (views_parts_fit ps ts b.0 c b.1)
-  views_fit (tuple ps) t v c e = absurd cc
+  views_fit (tuple ps) t v c e = absurd (no_some e)
   views_fit (tuple_structure name ps) (array ts) v c e =
       let b = some_map (value.tuple_structure name) (views_parts ps ts) v e in
       subst (λ x. Fits x (tuple_structure name ps)) b.2 (refl, views_parts_fit ps ts b.0 c b.1)
-  views_fit (tuple_structure name ps) t v c e = absurd cc
+  views_fit (tuple_structure name ps) t v c e = absurd (no_some e)
   views_fit (enumeration vs) (string name) v c e = let h = unit_is name (content_of vs name) v e in subst (λ x. Fits x (enumeration vs)) (sym h.1) h.0
   views_fit (enumeration vs) (document (pair name t no_pairs)) v c e = let f = views_variant_fit vs name t v c.2 e in variant_fits vs name f.0 v f.1 f.2
-  views_fit (enumeration vs) t v c e = absurd cc
+  views_fit (enumeration vs) t v c e = absurd (no_some e)
 
   views_parts_fit : (ps : Parts) (ts : Trees) (vs : Items) → AreTreesClean ts → views_parts ps ts ≡ Some vs → PartsFit vs ps
   views_parts_fit no_parts no_trees vs c e = subst (λ x. PartsFit x no_parts) (some_is no_items vs e) tt
@@ -246,20 +247,20 @@ mutual
       let a = some_then (λ v. option_map (item v) (views_parts ps ts)) (views s t) vs e in
       let b = some_map (item a.0) (views_parts ps ts) vs a.2 in
       subst (λ x. PartsFit x (part s ps)) b.2 (views_fit s t a.0 c.0 a.1, views_parts_fit ps ts b.0 c.1 b.1)
-  views_parts_fit ps ts vs c e = absurd cc
+  views_parts_fit ps ts vs c e = absurd (no_some e)
 
   views_variant_fit : (vs : Variants) (name : Utf8) (t : Tree) (v : Value) → IsClean t → views_variant vs name t ≡ Some v → FitsVariant (content_of vs name) name v
-  views_variant_fit no_variants name t v c e = absurd cc
+  views_variant_fit no_variants name t v c e = absurd (no_some e)
   views_variant_fit (variant n d vs) name t v c e =
       chosen_fits (bytes_eq n name) n name d (content_of vs name) (views_content n d t) (views_variant vs name t) v refl e (λ h. views_content_fit d n t v c h) (λ h. views_variant_fit vs name t v c h)
 
   views_content_fit : (d : Content) (name : Utf8) (t : Tree) (v : Value) → IsClean t → views_content name d t ≡ Some v → FitsContent name d v
-  views_content_fit unit_content name t v c e = absurd cc
+  views_content_fit unit_content name t v c e = absurd (no_some e)
   views_content_fit (newtype_content s) name t v c e = let m = some_map (value.newtype_variant name) (views s t) v e in (m.0, sym m.2, views_fit s t m.0 c m.1)
   views_content_fit (tuple_content ps) name (array ts) v c e = let m = some_map (value.tuple_variant name) (views_parts ps ts) v e in (m.0, sym m.2, views_parts_fit ps ts m.0 c m.1)
-  views_content_fit (tuple_content ps) name t v c e = absurd cc
+  views_content_fit (tuple_content ps) name t v c e = absurd (no_some e)
   views_content_fit (struct_content fs) name (document ps) v c e = let m = some_map (value.structure_variant name) (views_fields fs ps) v e in (m.0, sym m.2, views_fields_fit fs ps m.0 c m.1)
-  views_content_fit (struct_content fs) name t v c e = absurd cc
+  views_content_fit (struct_content fs) name t v c e = absurd (no_some e)
 
   views_fields_fit : (fs : Fields) (ps : Pairs) (vs : FieldValues) → ArePairsClean ps → views_fields fs ps ≡ Some vs → FieldsFit vs fs
   views_fields_fit no_fields ps vs c e = subst (λ x. FieldsFit x no_fields) (some_is no_field_values vs e) tt
@@ -276,7 +277,7 @@ abbrev IsNormal : Tree → Value → Type 0
 IsNormal t v = (norm v ≡ v) × (means v ≡ Some null → t ≡ null)
 
 wide_not_null : (b : Bool) (n : ℤ) → cond b None (Some (int64 n)) ≡ Some null → ⊥
-wide_not_null true n e = absurd cc
+wide_not_null true n e = absurd (no_some e)
 wide_not_null false n e = absurd cc
 
 number_not_null : (k : ElementType) (n : ℤ) → number_of k n ≡ Some null → ⊥
@@ -310,7 +311,7 @@ mutual
   any_normal (document ps) v e =
       let m = some_map value.map (views_any_entries ps) v e in
       subst (IsNormal (document ps)) m.2 (ap value.map (any_entries_normal ps m.0 m.1), λ h. absurd (no_map m.0 h))
-  any_normal t v e = absurd cc
+  any_normal t v e = absurd (no_some e)
 
   any_items_normal : (ts : Trees) (vs : Items) → views_any_items ts ≡ Some vs → norm_items vs ≡ vs
   any_items_normal no_trees vs e = subst (λ x. norm_items x ≡ x) (some_is no_items vs e) refl
@@ -339,47 +340,47 @@ sorted_normal t v c e =
 
 kind_normal : (b : Bool) (t : Tree) (v : Value) → IsClean t → cond b (Some (datum itself (sorted_tree t))) None ≡ Some v → IsNormal t v
 kind_normal true t v c e = sorted_normal t v c e
-kind_normal false t v c e = absurd cc
+kind_normal false t v c e = absurd (no_some e)
 
 uuid_normal : (a b : Bool) (t : Tree) (bs : Bytes) (v : Value) → cond (a && b) (Some (uuid_datum itself bs)) None ≡ Some v → IsNormal t v
 uuid_normal true true t bs v e = subst (IsNormal t) (some_is (uuid_datum itself bs) v e) (refl, λ h. absurd cc)
-uuid_normal true false t bs v e = absurd cc
-uuid_normal false b t bs v e = absurd cc
+uuid_normal true false t bs v e = absurd (no_some e)
+uuid_normal false b t bs v e = absurd (no_some e)
 
 extended_normal : (k : ExtendedLeaf) (t : Tree) (v : Value) → IsClean t → views_extended k t ≡ Some v → IsNormal t v
 extended_normal object_ids (tree.object_id id) v c e = sorted_normal (tree.object_id id) v c e
-extended_normal object_ids t v c e = absurd cc
+extended_normal object_ids t v c e = absurd (no_some e)
 extended_normal uuids (binary n b) v c e = uuid_normal (nat_eq n 4) (nat_eq (length b) 16) (binary n b) b v e
-extended_normal uuids t v c e = absurd cc
+extended_normal uuids t v c e = absurd (no_some e)
 extended_normal (of_kind k) t v c e = kind_normal (nat_eq (byte (kind t)) (byte k)) t v c e
 extended_normal trees t v c e = sorted_normal t v c e
 extended_normal documents (document ps) v c e = sorted_normal (document ps) v c e
-extended_normal documents t v c e = absurd cc
+extended_normal documents t v c e = absurd (no_some e)
 
 leaf_normal : (k : LeafKind) (t : Tree) (v : Value) → IsClean t → views_leaf k t ≡ Some v → IsNormal t v
 leaf_normal anything t v c e = any_normal t v e
-leaf_normal ignored t v c e = absurd cc
+leaf_normal ignored t v c e = absurd (no_some e)
 leaf_normal booleans (boolean b) v c e = subst (IsNormal (boolean b)) (some_is (value.boolean b) v e) (refl, λ h. absurd cc)
-leaf_normal booleans t v c e = absurd cc
+leaf_normal booleans t v c e = absurd (no_some e)
 leaf_normal (numbers type) (int32 n) v c e = number_normal type n (int32 n) v e
 leaf_normal (numbers type) (int64 n) v c e = number_normal type n (int64 n) v e
-leaf_normal (numbers type) t v c e = absurd cc
+leaf_normal (numbers type) t v c e = absurd (no_some e)
 leaf_normal doubles (double bits) v c e = subst (IsNormal (double bits)) (some_is (value.double bits) v e) (refl, λ h. absurd cc)
-leaf_normal doubles t v c e = absurd cc
+leaf_normal doubles t v c e = absurd (no_some e)
 leaf_normal characters (string t) v c e = let m = some_map value.character (one_character (chars t)) v e in subst (IsNormal (string t)) m.2 (refl, λ h. absurd cc)
-leaf_normal characters t v c e = absurd cc
+leaf_normal characters t v c e = absurd (no_some e)
 leaf_normal texts (string t) v c e = subst (IsNormal (string t)) (some_is (value.str t) v e) (refl, λ h. absurd cc)
-leaf_normal texts t v c e = absurd cc
+leaf_normal texts t v c e = absurd (no_some e)
 leaf_normal byte_strings (binary zero bs) v c e = subst (IsNormal (binary zero bs)) (some_is (value.bytes bs) v e) (refl, λ h. absurd cc)
-leaf_normal byte_strings t v c e = absurd cc
+leaf_normal byte_strings t v c e = absurd (no_some e)
 leaf_normal byte_buffers (binary zero bs) v c e = subst (IsNormal (binary zero bs)) (some_is (value.bytes bs) v e) (refl, λ h. absurd cc)
-leaf_normal byte_buffers t v c e = absurd cc
+leaf_normal byte_buffers t v c e = absurd (no_some e)
 leaf_normal units null v c e = subst (IsNormal null) (some_is value.unit v e) (refl, λ h. refl)
-leaf_normal units t v c e = absurd cc
+leaf_normal units t v c e = absurd (no_some e)
 leaf_normal (extended_values k) t v c e = extended_normal k t v c e
-leaf_normal raw_documents t v c e = absurd cc
-leaf_normal raw_arrays t v c e = absurd cc
-leaf_normal raw_values t v c e = absurd cc
+leaf_normal raw_documents t v c e = absurd (no_some e)
+leaf_normal raw_arrays t v c e = absurd (no_some e)
+leaf_normal raw_values t v c e = absurd (no_some e)
 
 -- some value that does not mean null stays
 stays : (o : Option Tree) (v : Value) → (o ≡ Some null → ⊥) → some_or_none o v ≡ value.some v
@@ -395,7 +396,7 @@ option_normal s t v inner e = let m = some_map value.some (views s t) v e in sub
 
 absent_normal : (s : Form) (v : Value) → absent s ≡ Some v → norm v ≡ v
 absent_normal (optional s) v e = subst (λ x. norm x ≡ x) (some_is value.none v e) refl
-absent_normal s v e = absurd cc
+absent_normal s v e = absurd (no_some e)
 
 field_normal : (s : Form) (o : Option Tree) (v : Value) → ((t : Tree) → o ≡ Some t → views s t ≡ Some v → IsNormal t v) → views_at (views s) (absent s) o ≡ Some v → norm v ≡ v
 field_normal s None v found e = absent_normal s v e
@@ -403,7 +404,7 @@ field_normal s (Some t) v found e = (found t refl e).0
 
 ok_of : (r : Writing Tree) (t : Tree) → result_ok r ≡ Some t → r ≡ Ok t
 ok_of (Ok u) t e = ap Ok (some_is u t e)
-ok_of (Err f) t e = absurd cc
+ok_of (Err f) t e = absurd (no_some e)
 
 abbrev nothing : Option Tree
 nothing = None
@@ -443,12 +444,12 @@ items_normal s each (tree.tree t ts) vs c e =
 
 leaf_key_normal : (k : LeafKind) (key : Utf8) (v : Value) → views_leaf_key k key ≡ Some v → norm v ≡ v
 leaf_key_normal texts key v e = subst (λ x. norm x ≡ x) (some_is (value.str key) v e) refl
-leaf_key_normal k key v e = absurd cc
+leaf_key_normal k key v e = absurd (no_some e)
 
 key_normal : (s : Form) (key : Utf8) (v : Value) → views_key s key ≡ Some v → norm v ≡ v
 key_normal (leaf l) key v e = leaf_key_normal (leaf_kind l) key v e
 key_normal (enumeration vs) key v e = subst (λ x. norm x ≡ x) (sym (unit_is key (content_of vs key) v e).1) refl
-key_normal s key v e = absurd cc
+key_normal s key v e = absurd (no_some e)
 
 entries_normal : (key s : Form) → ((t : Tree) (v : Value) → IsClean t → views s t ≡ Some v → IsNormal t v) → (ps : Pairs) (es : Entries) → ArePairsClean ps → views_entries (views_key key) (views s) ps ≡ Some es → norm_entries es ≡ es
 entries_normal key s each no_pairs es c e = subst (λ x. norm_entries x ≡ x) (some_is no_entries es e) refl
@@ -473,38 +474,38 @@ mutual
   views_normal (lossy s) t v p c e = views_normal s t v p.1 c e
   views_normal (human_readable s) t v p c e = absurd p
   views_normal (by_mode readable compact) t v p c e = absurd p
-  views_normal (reference name) t v p c e = absurd cc
+  views_normal (reference name) t v p c e = absurd (no_some e)
   views_normal (definitions h s) t v p c e = views_normal s t v p.1 c e
   views_normal (newtype name s) t v p c e =
       let m = some_map (value.newtype name) (views s t) v e in
       let inner = views_normal s t m.0 p.1 c m.1 in
       subst (IsNormal t) m.2 (ap (value.newtype name) inner.0, λ h. inner.1 (null_newtype name m.0 h))
   views_normal (unit_structure name) null v p c e = subst (IsNormal null) (some_is (value.unit_structure name) v e) (refl, λ h. refl)
-  views_normal (unit_structure name) t v p c e = absurd cc
+  views_normal (unit_structure name) t v p c e = absurd (no_some e)
   views_normal (sequence s) (array ts) v p c e =
       let b = some_map value.sequence (views_items (views s) ts) v e in
       subst (IsNormal (array ts)) b.2 (ap value.sequence (items_normal s (λ t w. views_normal s t w p) ts b.0 c b.1), λ h. absurd (no_sequence b.0 h))
-  views_normal (sequence s) t v p c e = absurd cc
+  views_normal (sequence s) t v p c e = absurd (no_some e)
   views_normal (map key s) (document ps) v p c e =
       let b = some_map value.map (views_entries (views_key key) (views s) ps) v e in
       subst (IsNormal (document ps)) b.2 (ap value.map (entries_normal key s (λ t w. views_normal s t w p.2) ps b.0 c b.1), λ h. absurd (no_map b.0 h))
-  views_normal (map key s) t v p c e = absurd cc
+  views_normal (map key s) t v p c e = absurd (no_some e)
   views_normal (structure u name fs) (document ps) v p c e =
       let k = where_known (all_known u fs ps) (option_map (value.structure name) (views_fields fs ps)) v e in
       let b = some_map (value.structure name) (views_fields fs ps) v k.1 in
       subst (IsNormal (document ps)) b.2 (free_norm name b.0 (free_struct_name name p.0) ∙ ap (value.structure name) (fields_normal fs ps b.0 p.1 c b.1), λ h. absurd (no_structure name b.0 h))
-  views_normal (structure u name fs) t v p c e = absurd cc
+  views_normal (structure u name fs) t v p c e = absurd (no_some e)
   views_normal (tuple ps) (array ts) v p c e =
       let b = some_map value.tuple (views_parts ps ts) v e in
       subst (IsNormal (array ts)) b.2 (ap value.tuple (parts_normal ps ts b.0 p c b.1), λ h. absurd (no_sequence b.0 h))
-  views_normal (tuple ps) t v p c e = absurd cc
+  views_normal (tuple ps) t v p c e = absurd (no_some e)
   views_normal (tuple_structure name ps) (array ts) v p c e =
       let b = some_map (value.tuple_structure name) (views_parts ps ts) v e in
       subst (IsNormal (array ts)) b.2 (ap (value.tuple_structure name) (parts_normal ps ts b.0 p c b.1), λ h. absurd (no_sequence b.0 h))
-  views_normal (tuple_structure name ps) t v p c e = absurd cc
+  views_normal (tuple_structure name ps) t v p c e = absurd (no_some e)
   views_normal (enumeration vs) (string name) v p c e = subst (IsNormal (string name)) (sym (unit_is name (content_of vs name) v e).1) (refl, λ h. absurd cc)
   views_normal (enumeration vs) (document (pair name t no_pairs)) v p c e = let n = variant_normal vs name t v p c.2 e in (n.0, λ h. absurd (n.1 h))
-  views_normal (enumeration vs) t v p c e = absurd cc
+  views_normal (enumeration vs) t v p c e = absurd (no_some e)
 
   parts_normal : (ps : Parts) (ts : Trees) (vs : Items) → ArePartsPlain ps → AreTreesClean ts → views_parts ps ts ≡ Some vs → norm_items vs ≡ vs
   parts_normal no_parts no_trees vs p c e = subst (λ x. norm_items x ≡ x) (some_is no_items vs e) refl
@@ -512,26 +513,26 @@ mutual
       let a = some_then (λ v. option_map (item v) (views_parts ps ts)) (views s t) vs e in
       let b = some_map (item a.0) (views_parts ps ts) vs a.2 in
       subst (λ x. norm_items x ≡ x) b.2 (λ i. item ((views_normal s t a.0 p.0 c.0 a.1).0 i) (parts_normal ps ts b.0 p.1 c.1 b.1 i))
-  parts_normal ps ts vs p c e = absurd cc
+  parts_normal ps ts vs p c e = absurd (no_some e)
 
   variant_normal : (vs : Variants) (name : Utf8) (t : Tree) (v : Value) → AreVariantsPlain vs → IsClean t → views_variant vs name t ≡ Some v → IsVariantNormal v
-  variant_normal no_variants name t v p c e = absurd cc
+  variant_normal no_variants name t v p c e = absurd (no_some e)
   variant_normal (variant n d vs) name t v p c e =
       chosen_holds {P = IsVariantNormal v} (bytes_eq n name) (views_content n d t) (views_variant vs name t) v e (λ h. content_normal d n t v p.1 c h) (λ h. variant_normal vs name t v p.2 c h)
 
   content_normal : (d : Content) (name : Utf8) (t : Tree) (v : Value) → IsContentPlain d → IsClean t → views_content name d t ≡ Some v → IsVariantNormal v
-  content_normal unit_content name t v p c e = absurd cc
+  content_normal unit_content name t v p c e = absurd (no_some e)
   content_normal (newtype_content s) name t v p c e =
       let m = some_map (value.newtype_variant name) (views s t) v e in
       subst IsVariantNormal m.2 (ap (value.newtype_variant name) (views_normal s t m.0 p c m.1).0, λ h. no_variant (λ x. x) name (means m.0) h)
   content_normal (tuple_content ps) name (array ts) v p c e =
       let m = some_map (value.tuple_variant name) (views_parts ps ts) v e in
       subst IsVariantNormal m.2 (ap (value.tuple_variant name) (parts_normal ps ts m.0 p c m.1), λ h. no_variant array name (means_items m.0) h)
-  content_normal (tuple_content ps) name t v p c e = absurd cc
+  content_normal (tuple_content ps) name t v p c e = absurd (no_some e)
   content_normal (struct_content fs) name (document ps) v p c e =
       let m = some_map (value.structure_variant name) (views_fields fs ps) v e in
       subst IsVariantNormal m.2 (ap (value.structure_variant name) (fields_normal fs ps m.0 p c m.1), λ h. no_variant document name (means_fields m.0) h)
-  content_normal (struct_content fs) name t v p c e = absurd cc
+  content_normal (struct_content fs) name t v p c e = absurd (no_some e)
 
   fields_normal : (fs : Fields) (ps : Pairs) (vs : FieldValues) → AreFieldsPlain fs → ArePairsClean ps → views_fields fs ps ≡ Some vs → norm_fields vs ≡ vs
   fields_normal no_fields ps vs p c e = subst (λ x. norm_fields x ≡ x) (some_is no_field_values vs e) refl

@@ -7,9 +7,10 @@ use Rattle.bson_base.specs.Sorted.{insert, ascending, sorted}
 use Rattle.bson_base.specs.Sound.{IsZeroFree}
 use Rattle.bson_kinds.specs.Text.{Bytes, Utf8, has_zero}
 use Rattle.bson_laws.proofs.ParsedSizes.{sorted_text}
+use Rattle.bson_kinds.proofs.Apart.{true_no}
 
 pub neither : (a b : Bool) → (a || b) ≡ false → (a ≡ false) × (b ≡ false)
-neither true b e = absurd cc
+neither true b e = absurd (true_no e)
 neither false b e = (refl, e)
 
 pub none_of : (a b : Bool) → a ≡ false → b ≡ false → (a || b) ≡ false

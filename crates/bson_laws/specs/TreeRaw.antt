@@ -19,7 +19,7 @@ use Rattle.bson_laws.specs.Assembled.{Building, assembled_tree}
 
 -- ---- the value that is put in bytes
 
--- the tree that a document or an array is; one of the input, or one that opening makes, is none in memory; no tree has the first
+-- the tree in memory that a document or an array is, if it is one
 abbrev pub held_whole : Whole → Option Tree
 held_whole (of_tree t) = Some t
 held_whole w = None
@@ -58,7 +58,7 @@ abbrev pub as_reading : Building Tree → Reading Tree
 as_reading (Ok t) = Ok t
 as_reading (Err c) = refused c
 
--- the value after the raw builder; one that is no tree, as none of a tree in memory is, is not put in bytes
+-- what the raw builder makes of a value in memory; one that is not in memory is not put in bytes, but a tree has no such value
 abbrev pub built_of : Option Tree → Reading Tree
 built_of (Some t) = as_reading (assembled_tree t)
 built_of None = refused not_borrowed

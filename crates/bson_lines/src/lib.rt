@@ -72,18 +72,18 @@ impl Lines {
     }
 
     /// Adds a name, and what `Debug` gives of what a call made, or the text of its error.
-    pub fn made<T: Debug, E: Display>(&mut self, name: &str, made: &Result<T, E>) {
+    pub fn made<T: Debug + Drop, E: Display + Drop>(&mut self, name: &str, made: Result<T, E>) {
         match made {
-            Ok(value) => self.debug(name, value),
-            Err(error) => self.text(name, error),
+            Ok(value) => self.debug(name, &value),
+            Err(error) => self.text(name, &error),
         }
     }
 
     /// Adds a name, and in hexadecimal digits the bytes that a call made, or the text of its error.
-    pub fn bytes<E: Display>(&mut self, name: &str, made: &Result<Vec<u8>, E>) {
+    pub fn bytes<E: Display + Drop>(&mut self, name: &str, made: Result<Vec<u8>, E>) {
         match made {
-            Ok(bytes) => self.hex(name, bytes),
-            Err(error) => self.text(name, error),
+            Ok(bytes) => self.hex(name, &bytes),
+            Err(error) => self.text(name, &error),
         }
     }
 

@@ -39,7 +39,7 @@ pub(crate) fn judge_element<'de>(
     ensures { Reaches value_view result (judged (node_in levels element.now.kind element.now.value)) }
 {
     match element.value() {
-        Ok(value) => Ok(judge_raw(alloc, levels, element, value)?),
+        Ok(value) => judge_raw(alloc, levels, element, value),
         Err(fault) => Err(refused(alloc, Cause::Raw(fault))),
     }
 }
@@ -50,10 +50,10 @@ pub(crate) fn judge_beyond<'de>(alloc: Global, levels: u32, what: &What<'de>) ->
     ensures { Reaches value_view result (judged (what_node levels what.now)) }
 {
     match what {
-        What::Element(element) => Ok(judge_element(alloc, levels, element)?),
-        What::Document(document) => Ok(judge_document(alloc, levels, *document)?),
-        What::Tree(value) => Ok(judge_tree(alloc, levels, value)?),
-        What::Pairs(document) => Ok(judge_pairs(alloc, levels, document)?),
+        What::Element(element) => judge_element(alloc, levels, element),
+        What::Document(document) => judge_document(alloc, levels, *document),
+        What::Tree(value) => judge_tree(alloc, levels, value),
+        What::Pairs(document) => judge_pairs(alloc, levels, document),
         What::Made(made) => Ok(judge_made(*made)),
     }
 }

@@ -238,7 +238,7 @@ impl<'de> Met<'de> {
             return judge_mended(alloc, self.levels, &self.what);
         }
         if let What::Element(element) = &self.what {
-            return Ok(judge_element(alloc, self.levels, element)?);
+            return judge_element(alloc, self.levels, element);
         }
         judge_beyond(alloc, self.levels, &self.what)
     }

@@ -17,7 +17,7 @@ use Rattle.bson_migrate_run.specs.Migrating.{NotRecast}
 abbrev pub migrate_usage : Usage
 migrate_usage = record { line = codes "usage: bson_migrate SHAPE\n"; is_option = λ word. false }
 
--- what is said of the document of a number
+-- what is said of the document with this number
 abbrev pub of_document : (number : ℕ) → Utf8 → Utf8
 of_document number said = codes "document " ++ (decimal number ++ (codes ": " ++ said))
 
@@ -35,7 +35,7 @@ abbrev pub refused_lines : List Refused → Utf8
 refused_lines [] = []
 refused_lines (x ∷ xs) = (refused_text x ++ newline) ++ refused_lines xs
 
--- the line for a document that is not recast; where its value is refused and is too long, it is either's
+-- The line for a document that is not recast. Where the value is refused and is also too long, it may be the line for either.
 abbrev pub IsLine : (number : ℕ) → Recast → Utf8 → Type 0
 IsLine number (writes bytes) line = ⊥
 IsLine number (unread f) line = line ≡ of_document number (read_refused_line f)

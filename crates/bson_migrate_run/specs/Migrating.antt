@@ -33,7 +33,7 @@ abbrev pub outputs : Form → List Bytes → Bytes
 outputs s [] = []
 outputs s (piece ∷ pieces) = bytes_of (recast_of s piece) ++ outputs s pieces
 
--- the recast of the document of a number, before those that are not recast behind it
+-- The list with this document in front, where it is not recast; else the list as it is.
 abbrev pub listed : (number : ℕ) → Recast → List NotRecast → List NotRecast
 listed number (writes bytes) rest = rest
 listed number (unread f) rest = record { number = number; recast = unread f } ∷ rest

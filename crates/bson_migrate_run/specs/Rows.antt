@@ -33,7 +33,7 @@ pub record BrokenRow (migration : Migrating) (out line : Bytes) : Type 0 where
   pub says : line ≡ broken_line place
   pub nothing : out ≡ []
 
--- what must be written for what the migration of a whole file comes to
+-- what must be written for what the migration of a file comes to
 abbrev pub AnswersMigration : Migrating → Expected MigrateStatus
 AnswersMigration migration statuses.Done out lines = DoneRow migration out lines
 AnswersMigration migration statuses.SomeRefused out lines = SomeRefusedRow migration out lines

@@ -1,4 +1,4 @@
--- A migration under way: what the proof of its loop needs, and no definition. Source: this library's own programs.
+-- A migration under way. For the contracts of functions inside this crate and their proofs; no public contract cites it. Source: this library's own programs.
 use Rattle.std.specs.Prelude.{◌≡◌, ◌+◌, ℕ, List, [], ◌++◌, length}
 use Rattle.bson_kinds.specs.Text.{Bytes}
 use Rattle.bson_rawdoc.specs.Cut.{Cut, cut}
@@ -7,7 +7,7 @@ use Rattle.bson_tree_recast.specs.Recast.{Recast}
 use Rattle.bson_migrate_run.specs.declared.migrating.Refused.{Refused}
 use Rattle.bson_migrate_run.specs.Migrating.{bytes_of, outputs, listed, not_recast, AreListed}
 
--- The recast of the document of a number: its bytes are behind the output now, and it is last in the list if it is refused.
+-- The recast of the document with this number: its bytes are behind the output now, and it is last in the list if it is refused.
 pub record IsOneMigrated (number : ℕ) (r : Recast) (old new : Bytes) (before after : List Refused) : Type 0 where
   pub more : List Refused
   pub are_listed : AreListed (listed number r []) more

@@ -17,7 +17,7 @@ const ILL_FORMED: &[u8] = b"\x0e\0\0\0\x02s\0\x02\0\0\0\xff\0\0";
 /// Adds the bytes that a value is written as, counted.
 fn add_counted(lines: &mut Lines, alloc: Global, value: &Datum<'_>) {
     let mut steps = Steps::<Tally>::new();
-    lines.bytes("to_vec_counted", &to_vec_counted(alloc, value, &mut steps));
+    lines.bytes("to_vec_counted", to_vec_counted(alloc, value, &mut steps));
 }
 
 /// Adds what is read of a document whose text is mended, and the bytes of that.
@@ -36,18 +36,18 @@ fn add_buffer(lines: &mut Lines, alloc: Global, shape: &Shape) {
     let mut out = Out::new(alloc);
     lines.made(
         "recast_to_buf",
-        &recast_to_buf(alloc, shape, DOCUMENT, &mut out),
+        recast_to_buf(alloc, shape, DOCUMENT, &mut out),
     );
     lines.hex("bytes", out.as_bytes());
 }
 
 /// Adds what each call recasts a document to.
 fn add_recasts(lines: &mut Lines, alloc: Global, shape: &Shape) {
-    lines.bytes("recast", &recast(alloc, shape, DOCUMENT));
-    lines.bytes("recast_by_tree", &recast_by_tree(alloc, shape, DOCUMENT));
+    lines.bytes("recast", recast(alloc, shape, DOCUMENT));
+    lines.bytes("recast_by_tree", recast_by_tree(alloc, shape, DOCUMENT));
     lines.bytes(
         "recast_utf8_lossy",
-        &recast_utf8_lossy(alloc, shape, ILL_FORMED),
+        recast_utf8_lossy(alloc, shape, ILL_FORMED),
     );
 }
 

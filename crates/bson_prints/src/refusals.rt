@@ -9,7 +9,7 @@ use std::alloc::{AllocError, Global};
 
 /// Adds the bytes that a datum is written as, or why it is refused.
 pub fn add_written(lines: &mut Lines, alloc: Global, datum: &Datum<'_>) {
-    lines.bytes("to_vec_at", &to_vec_at(alloc, datum));
+    lines.bytes("to_vec_at", to_vec_at(alloc, datum));
 }
 
 /// The front of a document with a binary of one byte too many under `x`.

@@ -26,7 +26,7 @@ fn add_left(lines: &mut Lines, source: &mut MemorySource) {
 
 /// Adds what is read of a source at a shape, and what is left in it.
 fn add_read(lines: &mut Lines, alloc: Global, shape: &Shape, source: &mut MemorySource) {
-    lines.made("from_reader_at", &from_reader_at(alloc, shape, source));
+    lines.made("from_reader_at", from_reader_at(alloc, shape, source));
     add_left(lines, source);
 }
 
@@ -42,7 +42,7 @@ fn add_bytes(lines: &mut Lines, alloc: Global, shape: &Shape, bytes: &[u8], fail
 fn add_taken(lines: &mut Lines, alloc: Global) {
     match source(alloc, DOCUMENT, 0) {
         Ok(mut source) => {
-            lines.bytes("take_document", &take_document(alloc, &mut source));
+            lines.bytes("take_document", take_document(alloc, &mut source));
             add_left(lines, &mut source);
         }
         Err(error) => lines.text("no source", &error),
@@ -54,7 +54,7 @@ fn add_mended(lines: &mut Lines, alloc: Global, shape: &Shape) {
     match source(alloc, DOCUMENT, 0) {
         Ok(mut source) => {
             let read = from_reader_utf8_lossy_at(alloc, shape, &mut source);
-            lines.made("from_reader_utf8_lossy_at", &read);
+            lines.made("from_reader_utf8_lossy_at", read);
         }
         Err(error) => lines.text("no source", &error),
     }

@@ -13,7 +13,7 @@ pub record SourceChange : Type 0 where
   pub faults_before : ℕ
   pub faults_after : ℕ
 
--- a sink: how many more bytes it took for sure, the bytes that were written, where it tells them, and how often it failed
+-- a sink: for how many more bytes it had room before the call, where it tells that, the bytes that were written, where it tells them, and how often it failed
 pub record SinkChange : Type 0 where
   pub room : Option ℕ
   pub before : Option Bytes

@@ -1,4 +1,4 @@
--- What is printed of a file of documents that is not read to its end. Source: this library's own programs.
+-- The lines for an input that is too long, and for a file of documents that is broken. Source: this library's own programs.
 use Rattle.std.specs.Prelude.{ℕ, ◌++◌, codes}
 use Rattle.std.specs.Fmt.{decimal}
 use Rattle.bson_kinds.specs.Text.{Utf8}

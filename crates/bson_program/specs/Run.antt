@@ -5,7 +5,7 @@ use Rattle.bson_kinds.specs.Text.{Bytes, Utf8}
 use Rattle.bson_io.specs.Ends.{last_count, RoseOrLast, AppendsPrefix, FitsIn}
 use Rattle.bson_program.specs.Ends.{SourceChange, SinkChange}
 
--- the words, what became of the input, the output and the output for lines, and the status, of those that the program ends with
+-- A run: its words; its input, `out` and `err`, before and after; and the status that it ended with.
 pub record Run (Status : Type 0) : Type 0 where
   pub words : List Utf8
   pub input : SourceChange
@@ -38,7 +38,8 @@ pub record AreWritten (bytes lines : Bytes) (out err : SinkChange) : Type 0 wher
   pub out_grew : Appends out.before out.after bytes
   pub err_grew : Appends err.before err.after lines
 
--- A sink's count rose or is at its last value; each sink grew by a first part of what had to be written; and there was not room for all of it that a sink told of.
+-- A sink's count rose or is at its last value; each sink grew by a first part of what had to be written; and at least one of the two had not told of room for all
+-- that was to go to it.
 pub record AreCut (bytes lines : Bytes) (out err : SinkChange) : Type 0 where
   pub cause : RoseOrLast out.faults_before out.faults_after ⊎ RoseOrLast err.faults_before err.faults_after
   pub out_grew : AppendsPrefix out.before out.after bytes

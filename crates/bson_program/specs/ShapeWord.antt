@@ -20,7 +20,7 @@ newline = 10 ∷ []
 abbrev pub line_at : ℕ → ParseError → Utf8
 line_at place e = codes "shape refused at " ++ (decimal place ++ (codes ": " ++ (refusal_text e ++ newline)))
 
--- the line for an error of the parser, but because memory ran out
+-- the line for an error of the parser; none where memory ran out
 abbrev pub line_for : ParseError → Option Utf8
 line_for (errors.NotNotation place) = Some (line_at place (errors.NotNotation place))
 line_for (errors.Refused place cause) = Some (line_at place (errors.Refused place cause))
@@ -43,7 +43,7 @@ pub record IsNotation (word : Utf8) (shape : Form) : Type 0 where
   pub notation : word ≡ text shape
   pub made : IsShape shape
 
--- The word is the notation of no shape, for this place.
+-- The longest front of the word with which some notation begins ends at this place, and no maker refuses in it; the line tells this.
 pub record IsNoNotation (word line : Utf8) : Type 0 where
   pub place : ℕ
   pub stops : IsNotNotationAt word place

@@ -28,7 +28,7 @@ recast_with Plain s bytes = recast_of s bytes
 recast_with Lossy s bytes = lossy_recast_of s bytes
 recast_with Tree s bytes = tree_recast_of s bytes
 
--- what a recast returns that appends to a buffer with these bytes, which has the new ones then
+-- What a recast that appends to a buffer returns; the buffer held the old bytes before and holds the new ones now.
 abbrev pub IsAppended : Recast → (old new : Bytes) → Result (Unit {0}) RecastError → Type 0
 IsAppended r old new (Ok u) = (bytes : Bytes) × (r ≡ writes bytes) × (new ≡ old ++ bytes)
 IsAppended r old new (Err e) = IsRefusal r e × (new ≡ old)
@@ -46,7 +46,7 @@ IsForSize s bytes f =
     ((f ≡ too_long_failure) × ((d : Value) → reads_document s bytes ≡ Ok d → max_bytes < size d))
     ⊎ ((path : Path) × (fault : WriteFault) × (f ≡ placed path (bare fault)) × IsTooLarge fault)
 
--- the failure is not that of a number that no Int64 holds
+-- the failure, with its path, is not `UnsignedIntegerExceededRange`, the one for a number that no Int64 holds
 abbrev pub IsForNoNumber : Failure WriteFault → Type 0
 IsForNoNumber f = (path : Path) (fault : WriteFault) → f ≡ placed path (bare fault) → IsNumber fault → ⊥
 

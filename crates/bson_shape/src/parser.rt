@@ -532,6 +532,13 @@ fn read_characters(alloc: Global, text: &str, levels: &mut Vec<Level>) -> Result
     Ok(mode)
 }
 
+/// The refusal of a text that ends before its form does.
+fn unended(_mode: Mode, at: usize) -> ParseError
+    ensures { result ≡ ParseError.NotNotation at }
+{
+    ParseError::NotNotation(at)
+}
+
 /// The end of the text.
 #[tactic(auto, unfolding(crate::specs::Machine::finish))]
 fn finish(
@@ -550,7 +557,7 @@ fn finish(
         },
         Mode::Bare(Owner::ReferenceAt(_), name) => last(alloc, Shape::reference(name), levels, at),
         Mode::Named(Owner::ReferenceAt(_), name) => last(alloc, Shape::reference(name), levels, at),
-        _ => Err(ParseError::NotNotation(at)),
+        other => Err(unended(other, at)),
     }
 }
 

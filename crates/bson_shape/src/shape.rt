@@ -32,7 +32,7 @@ pub struct Shape {
 }
 
 #[cycle(shape)]
-#[derive(Debug, Drop)]
+#[derive(Debug)]
 enum Node {
     Leaf(Leaf),
     Option(Box<Shape>),
@@ -50,6 +50,29 @@ enum Node {
     Enum(Vec<VariantShape>),
     Reference(String),
     Definitions(Vec<FieldShape>, Box<Shape>),
+}
+
+// By hand, so that what drops a shape calls this: a derived drop is repeated at each place where a shape is dropped.
+impl Drop for Node {
+    #[cycle(shape)]
+    fn drop(self) {
+        match self {
+            Node::Leaf(_) => {}
+            Node::Option(_inner)
+            | Node::Lossy(_inner)
+            | Node::Readable(_inner)
+            | Node::Seq(_inner) => {}
+            Node::Map(_first, _second) | Node::Mode(_first, _second) => {}
+            Node::Tuple(_items) => {}
+            Node::TupleStruct(_name, _items) => {}
+            Node::Newtype(_name, _inner) => {}
+            Node::UnitStruct(_name) | Node::Reference(_name) => {}
+            Node::Struct(_name, _fields) => {}
+            Node::ClosedStruct(_name, _fields) => {}
+            Node::Enum(_variants) => {}
+            Node::Definitions(_table, _body) => {}
+        }
+    }
 }
 
 /// A field of a struct, or a definition.

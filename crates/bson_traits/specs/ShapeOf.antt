@@ -8,14 +8,14 @@ use Rattle.bson_shape.specs.declared.error.ShapeError.TheVariants.{TooDeep, NoMe
 use Rattle.bson_values.specs.Value.{Value}
 use Rattle.bson_type_data.specs.Answers.{Reading, not_fitting}
 
--- The shape of the form, where it has few enough levels; `TooDeep` where it has more, or out of memory.
+-- The call gives the shape of the form exactly where it has at most 512 levels, and else `TooDeep`; out of memory is free.
 abbrev pub IsShapeOf : Form → Result Form ShapeError → Type 0
 IsShapeOf form (Ok s) = (s ≡ form) × (levels form ≤ max_shape_levels)
 IsShapeOf form (Err TooDeep) = max_shape_levels < levels form
 IsShapeOf form (Err NoMemory) = Unit {0}
 IsShapeOf form (Err e) = ⊥
 
--- the form of a type that has a shape; a type whose form has too many levels fits nothing
+-- The form, where it has at most 512 levels; else the type has no shape, and the failure is `NotFitting`.
 abbrev pub shape_of_type : Form → Reading Form
 shape_of_type form = if nat_lt max_shape_levels (levels form) then Err not_fitting else Ok form
 

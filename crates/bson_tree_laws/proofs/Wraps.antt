@@ -26,6 +26,7 @@ use Rattle.bson_laws.specs.Unwrap.{Part, a_key, a_value, next_key, next_unsigned
 use Rattle.bson_tree_laws.specs.Alike.{HasFreeKeys, HasSubtype}
 use Rattle.bson_base.specs.Folded.{fold, or_document}
 use Rattle.bson_tree_laws.specs.TreeSpell.{tree_spell}
+use Rattle.bson_kinds.proofs.Apart.{no_ok}
 
 -- what a value is spelled as, where its keys are free, it is written to
 abbrev pub Agrees : Value → Type 0
@@ -47,20 +48,20 @@ abbrev Written : Tree → Tree → Type 0
 Written t u = done t ≡ Ok u
 
 pub kept : (b : Bool) (f : Refusal WriteFault) (t u : Tree) → cond b (Err f) (Ok t) ≡ Ok u → t ≡ u
-kept true f t u e = absurd cc
+kept true f t u e = absurd (no_ok e)
 kept false f t u e = ok_is t u e
 
 -- ---- each kind
 
 id_step : (ps : Pairs) (o : Option Bytes) (u : Tree) → spell_unwrapped (option_map tree.object_id (option_and_then Some o)) ≡ Ok u → Written (or_document ps (option_map tree.object_id o)) u
-id_step ps None u e = absurd cc
+id_step ps None u e = absurd (no_ok e)
 id_step ps (Some x) u e = e
 
 id_agrees : (id : Bytes) → Agrees (datum itself (tree.object_id id))
 id_agrees id r levels u e f = id_step (pair (codes "$oid") (string (digits id)) no_pairs) (bytes_of_digits 12 (digits id)) u e
 
 date_step : (ps : Pairs) (o : Option ℤ) (u : Tree) → spell_unwrapped (option_map tree.date_time (option_and_then Some o)) ≡ Ok u → Written (fold (pair (codes "$date") (or_document ps (option_map tree.int64 o)) no_pairs)) u
-date_step ps None u e = absurd cc
+date_step ps None u e = absurd (no_ok e)
 date_step ps (Some x) u e = e
 
 date_agrees : (n : ℤ) → Agrees (datum itself (tree.date_time n))
@@ -71,7 +72,7 @@ pointer_of n id = tree.db_pointer n id
 
 pointer_step : (n : Utf8) (ps : Pairs) (o : Option Bytes) (u : Tree) → spell_unwrapped (option_map (λ (p : Utf8 × Bytes). tree.db_pointer p.0 p.1) (option_and_then (λ x. Some (n, x)) o)) ≡ Ok u
     → Written (fold (pair (codes "$dbPointer") (fold (pair (codes "$ref") (string n) (pair (codes "$id") (or_document ps (option_map tree.object_id o)) no_pairs))) no_pairs)) u
-pointer_step n ps None u e = absurd cc
+pointer_step n ps None u e = absurd (no_ok e)
 pointer_step n ps (Some x) u e = e
 
 pointer_agrees : (n : Utf8) (id : Bytes) → Agrees (datum itself (tree.db_pointer n id))
@@ -79,7 +80,7 @@ pointer_agrees n id r levels u e f = pointer_step n (pair (codes "$oid") (string
 
 binary_step : (s : ℕ) (ps : Pairs) (o : Option Bytes) (u : Tree) → spell_unwrapped (option_map (λ (p : ℕ × Bytes). tree.binary p.0 p.1) (or_else (option_and_then (λ x. Some (s, x)) o) None)) ≡ Ok u
     → Written (or_document ps (option_and_then (λ b. Some (tree.binary s b)) o)) u
-binary_step s ps None u e = absurd cc
+binary_step s ps None u e = absurd (no_ok e)
 binary_step s ps (Some x) u e = ap Ok (kept _ _ (tree.binary s x) u e)
 
 binary_agrees : (n : ℕ) (b : Bytes) → suc n < 256 → Agrees (datum itself (tree.binary (suc n) b))
@@ -104,7 +105,7 @@ expression_step p o u e =
     (λ i. tree.regular_expression (whole p a.0 a.1 i) (sorted (whole o b.0 b.1 i))) ∙ ok_is (tree.regular_expression a.0 (sorted b.0)) u b.2
   where
     by_case : (c : Bool) (f : Refusal WriteFault) (x y : Utf8) → cond c (Err f) (text_done x) ≡ Ok y → x ≡ y
-    by_case true f x y q = absurd cc
+    by_case true f x y q = absurd (no_ok q)
     by_case false f x y q = text_is x y q
 
     whole : (x y : Utf8) → zero_free x ≡ Ok y → x ≡ y
@@ -124,11 +125,11 @@ behind_time time = option_and_then (λ second. option_and_then (behind time.0) (
 
 first_small : (t : ℕ) (rest : List (Part Value)) (b : Bool) (u : Tree) → spell_unwrapped (option_map stamp (option_and_then behind_time (cond b (Some (t, rest)) None))) ≡ Ok u → (b ≡ true) × (spell_unwrapped (option_map stamp (behind_time (t, rest))) ≡ Ok u)
 first_small t rest true u e = (refl, e)
-first_small t rest false u e = absurd cc
+first_small t rest false u e = absurd (no_ok e)
 
 second_small : (t i : ℕ) (b : Bool) (u : Tree) → spell_unwrapped (option_map stamp (option_and_then (behind t) (cond b (Some (i, [])) None))) ≡ Ok u → (b ≡ true) × (done (tree.timestamp t i) ≡ Ok u)
 second_small t i true u e = (refl, e)
-second_small t i false u e = absurd cc
+second_small t i false u e = absurd (no_ok e)
 
 small_written : (n : ℕ) → nat_lt n (2 ^ 32) ≡ true → spell_number Int64 (pos n) ≡ Ok (tree.int64 (pos n))
 small_written n e =
@@ -152,7 +153,7 @@ timestamp_agrees t i r levels u e f =
 
 decimal_step : (ps : Pairs) (b : Bytes) (c : Bool) (u : Tree) → spell_unwrapped (option_map tree.decimal128 (option_and_then Some (cond c (Some b) None))) ≡ Ok u → Written (or_document ps (cond c (Some (tree.decimal128 b)) None)) u
 decimal_step ps b true u e = e
-decimal_step ps b false u e = absurd cc
+decimal_step ps b false u e = absurd (no_ok e)
 
 decimal_agrees : (b : Bytes) → Agrees (datum itself (tree.decimal128 b))
 decimal_agrees b r levels u e f = decimal_step (pair (codes "$numberDecimalBytes") (tree.binary 0 b) no_pairs) b (nat_eq (length b) 16) u e

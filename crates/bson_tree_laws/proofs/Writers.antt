@@ -22,6 +22,7 @@ use Rattle.bson_tree_laws.proofs.Wraps.{Agrees, EachAgrees, kept, wrap_agrees}
 use Rattle.bson_tree_laws.specs.Alike.{HasFreeKeys, PairsHaveFreeKeys, TreesHaveFreeKeys, IsWrap, IsTextKey, IsAlike, AreAlike, EntriesAlike, FieldsAlike}
 use Rattle.bson_base.specs.Folded.{fold}
 use Rattle.bson_tree_laws.specs.TreeSpell.{tree_uuid, tree_key, tree_variant, tree_struct, tree_spell, tree_items, tree_entries, tree_fields}
+use Rattle.bson_kinds.proofs.Apart.{no_ok}
 
 -- ---- the same for items, entries and fields
 
@@ -40,7 +41,7 @@ FieldsAgree fs = (readable : Bool) (levels : ℕ) (ps done : Pairs) → spell_fi
 -- where the parts of a container are written, one level further in, so is another of the same levels
 enclosed_agrees : {A B : Type 0} (one : A → Tree) (other : B → Tree) (parts : ℕ → Writing A) (others : ℕ → Writing B) (levels : ℕ) (u : Tree) → ((n : ℕ) (x : A) → parts n ≡ Ok x → one x ≡ u → result_map other (others n) ≡ Ok u)
     → enclosed_at one levels parts ≡ Ok u → enclosed_at other levels others ≡ Ok u
-enclosed_agrees one other parts others zero u h e = absurd cc
+enclosed_agrees one other parts others zero u h e = absurd (no_ok e)
 enclosed_agrees one other parts others (suc n) u h e = let m = map_ok one (parts n) u e in h n m.0 m.1 m.2
 
 array_agrees : (vs : Items) → ItemsAgree vs → (readable : Bool) (levels : ℕ) (u : Tree) → enclosed_at array levels (spell_items_as readable 0 vs) ≡ Ok u → HasFreeKeys u → enclosed_at array levels (tree_items readable 0 vs) ≡ Ok u
@@ -82,7 +83,7 @@ key_agrees readable levels (value.unit_variant t) key a e = ap Ok (some_is t key
 key_agrees readable levels k key a e = absurd a
 
 uuid_agrees : (o : Option Bytes) (u : Tree) → spell_uuid o ≡ Ok u → tree_uuid o ≡ Ok u
-uuid_agrees None u e = absurd cc
+uuid_agrees None u e = absurd (no_ok e)
 uuid_agrees (Some b) u e = ap Ok (kept _ _ (tree.binary 4 b) u e)
 
 newtype_agrees : (b : Bool) (o : Option Bytes) (r q : Writing Tree) (u : Tree) → (r ≡ Ok u → q ≡ Ok u) → cond b (spell_uuid o) r ≡ Ok u → cond b (tree_uuid o) q ≡ Ok u

@@ -25,7 +25,7 @@ pub data Recast : Type 0 where
   -- what is read is not written: for this failure, where there is one, or for its size, where it takes more bytes than a document may
   unwritten : (expected : Option (Failure WriteFault)) → (too_long : Bool) → Recast
 
--- the recast of a value that is too long or not, by the tree that it is written as
+-- the recast of a value, by whether it is too long and by what it is written as
 abbrev pub written : (too_long : Bool) → Writing Tree → Recast
 written too_long (Err r) = unwritten (Some (with_path r)) too_long
 written true (Ok t) = unwritten None true
@@ -64,13 +64,13 @@ abbrev pub IsRecast : Recast → Result (Vec ℕ) RecastError → Type 0
 IsRecast r (Ok v) = r ≡ writes v.items
 IsRecast r (Err e) = IsRefusal r e
 
--- an error of reading, unless it is out of memory
+-- What a recast returns for an error of reading: `Read` with it, or `NoMemory` where memory ran out.
 abbrev pub IsReadError : de.Error → RecastError → Type 0
 IsReadError e NoMemory = read_failure e ≡ no_memory
 IsReadError e (Read d) = (d ≡ e) × (read_failure e ≢ no_memory)
 IsReadError e (Write d) = ⊥
 
--- an error of writing, unless it is out of memory
+-- What a recast returns for an error of writing: `Write` with it, or `NoMemory` where memory ran out.
 abbrev pub IsWriteError : ser.Error → RecastError → Type 0
 IsWriteError e NoMemory = write_failure e ≡ no_memory
 IsWriteError e (Write d) = (d ≡ e) × (write_failure e ≢ no_memory)

@@ -13,7 +13,7 @@ const ALL: &[u8] =
 /// Adds a document as a datum, what is read of that, and its bytes.
 fn add_document(lines: &mut Lines, alloc: Global, document: &Document) {
     add_value(lines, alloc, document);
-    lines.bytes("to_vec", &to_vec(alloc, document));
+    lines.bytes("to_vec", to_vec(alloc, document));
 }
 
 /// Code with a scope that is empty.

@@ -20,7 +20,7 @@ const MILLIS: i64 = 1700000000000;
 /// Adds an ObjectId as a text of digits.
 fn add_object_id(lines: &mut Lines, alloc: Global, id: &ObjectId) {
     let digits = serialize_object_id_as_hex_string(alloc, id);
-    lines.made("serialize_object_id_as_hex_string", &digits);
+    lines.made("serialize_object_id_as_hex_string", digits);
 }
 
 /// Adds a text of digits as an ObjectId.
@@ -29,7 +29,7 @@ fn add_digits(lines: &mut Lines, alloc: Global, digits: &str) {
         Ok(datum) => {
             lines.debug(digits, &datum);
             let read = hex_string_as_object_id::deserialize(alloc, datum);
-            lines.made("read", &read);
+            lines.made("read", read);
         }
         Err(error) => lines.text(digits, &error),
     }
@@ -41,7 +41,7 @@ fn add_text(lines: &mut Lines, alloc: Global, text: &str) {
         Ok(datum) => {
             lines.debug(text, &datum);
             let read = rfc3339_string_as_bson_datetime::deserialize(alloc, datum);
-            lines.made("read", &read);
+            lines.made("read", read);
         }
         Err(error) => lines.text(text, &error),
     }
@@ -53,7 +53,7 @@ fn add_date(lines: &mut Lines, alloc: Global, date: &DateTime) {
         Ok(datum) => {
             lines.debug("date", &datum);
             let read = bson_datetime_as_rfc3339_string::deserialize(alloc, datum);
-            lines.made("read", &read);
+            lines.made("read", read);
         }
         Err(error) => lines.text("date", &error),
     }
@@ -64,7 +64,7 @@ fn add_millis(lines: &mut Lines, alloc: Global, millis: &i64) {
     match i64_as_bson_datetime::serialize(alloc, millis) {
         Ok(datum) => {
             lines.debug("milliseconds", &datum);
-            lines.made("read", &i64_as_bson_datetime::deserialize(alloc, datum));
+            lines.made("read", i64_as_bson_datetime::deserialize(alloc, datum));
         }
         Err(error) => lines.text("milliseconds", &error),
     }
@@ -75,7 +75,7 @@ fn add_seconds(lines: &mut Lines, alloc: Global, seconds: &u32) {
     match u32_as_timestamp::serialize(alloc, seconds) {
         Ok(datum) => {
             lines.debug("seconds", &datum);
-            lines.made("read", &u32_as_timestamp::deserialize(alloc, datum));
+            lines.made("read", u32_as_timestamp::deserialize(alloc, datum));
         }
         Err(error) => lines.text("seconds", &error),
     }
@@ -86,7 +86,7 @@ fn add_stamp(lines: &mut Lines, alloc: Global, time: u32, increment: u32) {
     match timestamp_as_u32::serialize(alloc, &Timestamp { time, increment }) {
         Ok(datum) => {
             lines.debug("stamp", &datum);
-            lines.made("read", &timestamp_as_u32::deserialize(alloc, datum));
+            lines.made("read", timestamp_as_u32::deserialize(alloc, datum));
         }
         Err(error) => lines.text("stamp", &error),
     }

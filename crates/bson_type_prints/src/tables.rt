@@ -49,7 +49,7 @@ fn add_source(lines: &mut Lines, alloc: Global, bytes: &[u8]) {
     match source(alloc, bytes) {
         Ok(mut source) => {
             let read = from_reader::<MemorySource, Table>(alloc, &mut source);
-            lines.made("from_reader", &read);
+            lines.made("from_reader", read);
         }
         Err(error) => lines.text("no source", &error),
     }
@@ -60,7 +60,7 @@ fn add_mended_source(lines: &mut Lines, alloc: Global, bytes: &[u8]) {
     match source(alloc, bytes) {
         Ok(mut source) => {
             let read = from_reader_utf8_lossy::<MemorySource, Table>(alloc, &mut source);
-            lines.made("from_reader_utf8_lossy", &read);
+            lines.made("from_reader_utf8_lossy", read);
         }
         Err(error) => lines.text("no source", &error),
     }
@@ -69,18 +69,18 @@ fn add_mended_source(lines: &mut Lines, alloc: Global, bytes: &[u8]) {
 /// Adds what is read of bytes with texts mended.
 fn add_mended(lines: &mut Lines, alloc: Global, bytes: &[u8]) {
     let read = from_slice_utf8_lossy::<Table>(alloc, bytes);
-    lines.made("from_slice_utf8_lossy", &read);
+    lines.made("from_slice_utf8_lossy", read);
 }
 
 /// Adds the bytes that a table is written as, and the document that owns them.
 fn add_bytes(lines: &mut Lines, alloc: Global, table: &Table) {
-    lines.bytes("to_vec", &to_vec(alloc, table));
-    lines.made("to_raw_document_buf", &to_raw_document_buf(alloc, table));
+    lines.bytes("to_vec", to_vec(alloc, table));
+    lines.made("to_raw_document_buf", to_raw_document_buf(alloc, table));
 }
 
 /// Adds what is read of a value in memory.
 fn add_read(lines: &mut Lines, alloc: Global, value: Bson) {
-    lines.made("from_bson", &from_bson::<Table>(alloc, value));
+    lines.made("from_bson", from_bson::<Table>(alloc, value));
 }
 
 /// Adds a table as a value in memory, and what is read of it.
@@ -100,7 +100,7 @@ fn add_compact_value(lines: &mut Lines, alloc: Global, table: &Table) {
         Ok(value) => {
             lines.debug("to_bson_with_options", &value);
             let read = from_bson_with_options::<Table>(alloc, value, reading());
-            lines.made("from_bson_with_options", &read);
+            lines.made("from_bson_with_options", read);
         }
         Err(error) => lines.text("no value", &error),
     }
@@ -112,7 +112,7 @@ fn add_document(lines: &mut Lines, alloc: Global, table: &Table) {
         Ok(document) => {
             lines.debug("to_document", &document);
             let read = from_document::<Table>(alloc, document);
-            lines.made("from_document", &read);
+            lines.made("from_document", read);
         }
         Err(error) => lines.text("no document", &error),
     }
@@ -124,7 +124,7 @@ fn add_compact_document(lines: &mut Lines, alloc: Global, table: &Table) {
         Ok(document) => {
             lines.debug("to_document_with_options", &document);
             let read = from_document_with_options::<Table>(alloc, document, reading());
-            lines.made("from_document_with_options", &read);
+            lines.made("from_document_with_options", read);
         }
         Err(error) => lines.text("no document", &error),
     }
@@ -150,8 +150,8 @@ fn add_slice(lines: &mut Lines, alloc: Global, bytes: &[u8]) {
 
 /// Adds a number as a value in memory; it is no document.
 fn add_number(lines: &mut Lines, alloc: Global, number: &i32) {
-    lines.made("to_bson", &to_bson(alloc, number));
-    lines.made("to_document", &to_document(alloc, number));
+    lines.made("to_bson", to_bson(alloc, number));
+    lines.made("to_document", to_document(alloc, number));
 }
 
 /// A table that is read and written by each call, and a document and values that are none.

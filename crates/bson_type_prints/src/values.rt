@@ -12,13 +12,13 @@ use std::fmt::{Debug, Display};
 
 /// The greatest numbers that are converted, and the ones behind them.
 pub fn add_numbers(lines: &mut Lines) {
-    lines.made("u32 as i32", &serialize_u32_as_i32(&2147483647));
-    lines.made("u32 as i32", &serialize_u32_as_i32(&2147483648));
-    lines.made("u32 as i64", &serialize_u32_as_i64(&4294967295));
-    lines.made("u64 as i32", &serialize_u64_as_i32(&2147483647));
-    lines.made("u64 as i32", &serialize_u64_as_i32(&2147483648));
-    lines.made("u64 as i64", &serialize_u64_as_i64(&9223372036854775807));
-    lines.made("u64 as i64", &serialize_u64_as_i64(&9223372036854775808));
+    lines.made("u32 as i32", serialize_u32_as_i32(&2147483647));
+    lines.made("u32 as i32", serialize_u32_as_i32(&2147483648));
+    lines.made("u32 as i64", serialize_u32_as_i64(&4294967295));
+    lines.made("u64 as i32", serialize_u64_as_i32(&2147483647));
+    lines.made("u64 as i32", serialize_u64_as_i32(&2147483648));
+    lines.made("u64 as i64", serialize_u64_as_i64(&9223372036854775807));
+    lines.made("u64 as i64", serialize_u64_as_i64(&9223372036854775808));
 }
 
 /// Adds the notation of a shape that was made.
@@ -35,7 +35,7 @@ pub fn add_read<'de, T: Deserialize<'de> + Debug + Drop>(
     alloc: Global,
     datum: Datum<'de>,
 ) {
-    lines.made("from_datum", &T::from_datum(alloc, datum));
+    lines.made("from_datum", T::from_datum(alloc, datum));
 }
 
 /// Adds the shape of a type, the datum of a value, and what is read of that.

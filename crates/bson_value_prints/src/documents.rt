@@ -21,7 +21,7 @@ fn one_text(alloc: Global, key: &str, text: &str) -> Result<Document, AllocError
 /// Adds the bytes of a document of one text, or why it has none.
 fn add_written(lines: &mut Lines, alloc: Global, key: &str, text: &str) {
     match one_text(alloc, key, text) {
-        Ok(document) => lines.bytes("written", &document.to_vec(alloc)),
+        Ok(document) => lines.bytes("written", document.to_vec(alloc)),
         Err(error) => lines.text("no document", &error),
     }
 }
@@ -60,7 +60,7 @@ pub fn add_documents(lines: &mut Lines, alloc: Global) {
         Ok(bytes) => add_owned(lines, bytes),
         Err(error) => lines.text("no bytes", &error),
     }
-    lines.made("folded", &folded(alloc));
+    lines.made("folded", folded(alloc));
     add_written(lines, alloc, "a\0", "b");
     lines.text("refusal", &EncodeError::BinaryTooLong(16777217));
     lines.text("refusal", &EncodeError::TooLong);

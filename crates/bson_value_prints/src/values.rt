@@ -64,7 +64,7 @@ fn put(alloc: Global, document: &mut Document) -> Result<Option<Bson>, AllocErro
 fn add_put(lines: &mut Lines, alloc: Global) {
     let mut document = Document::new(alloc);
     for _ in 0..2 {
-        lines.made("put", &put(alloc, &mut document));
+        lines.made("put", put(alloc, &mut document));
         lines.text("keys", &document.len());
     }
 }
@@ -84,7 +84,7 @@ fn add_copied(lines: &mut Lines, alloc: Global, document: RawDocument<'_>) {
     match document.to_document(alloc) {
         Ok(document) => {
             let value = Bson::Document(document);
-            lines.made("equal to its copy", &is_copied(alloc, &value));
+            lines.made("equal to its copy", is_copied(alloc, &value));
         }
         Err(fault) => lines.debug("no tree", &fault),
     }
@@ -108,26 +108,35 @@ fn owned_bytes<'x>(alloc: Global) -> Result<ByteStr<'x>, AllocError> {
     ByteStr::Borrowed(b"a").into_owned(alloc)
 }
 
-/// Adds a text and a byte string, owned, and copies of them.
-fn add_text_copies(lines: &mut Lines, alloc: Global) {
-    let text = owned_text(alloc);
-    lines.made("text", &text);
-    if let Ok(text) = &text {
-        lines.made("copy", &text.try_clone(alloc));
+/// Adds a text that is owned, and a copy of it.
+fn add_text_copy(lines: &mut Lines, alloc: Global) {
+    match owned_text(alloc) {
+        Ok(text) => {
+            lines.debug("text", &text);
+            lines.made("copy", text.try_clone(alloc));
+        }
+        Err(error) => lines.text("no text", &error),
     }
-    let bytes = owned_bytes(alloc);
-    lines.made("bytes", &bytes);
-    if let Ok(bytes) = &bytes {
-        lines.made("copy", &bytes.try_clone(alloc));
+}
+
+/// Adds a byte string that is owned, and a copy of it.
+fn add_bytes_copy(lines: &mut Lines, alloc: Global) {
+    match owned_bytes(alloc) {
+        Ok(bytes) => {
+            lines.debug("bytes", &bytes);
+            lines.made("copy", bytes.try_clone(alloc));
+        }
+        Err(error) => lines.text("no bytes", &error),
     }
 }
 
 /// A binary, a regular expression, a value that is opened, a value that is put, and copies.
 pub fn add_values(lines: &mut Lines, alloc: Global) {
-    lines.made("binary", &binary(alloc));
+    lines.made("binary", binary(alloc));
     add_regex_copy(lines, alloc);
     add_opened(lines, alloc);
     add_put(lines, alloc);
     add_copy(lines, alloc);
-    add_text_copies(lines, alloc);
+    add_text_copy(lines, alloc);
+    add_bytes_copy(lines, alloc);
 }

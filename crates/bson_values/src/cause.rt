@@ -10,7 +10,7 @@ use std::fmt;
 const HAS_INCREMENT: &str = "Cannot convert Timestamp with a non-zero increment to u32";
 
 /// Why a value is refused.
-#[derive(Debug, Drop)]
+#[derive(Debug)]
 pub enum Cause {
     /// The bytes have this fault.
     Raw(raw::Error),
@@ -84,6 +84,49 @@ pub enum Cause {
     NotObjectId(String),
     /// The time, in milliseconds since the start of 1970, is outside the years 0 to 9999.
     NoRfc3339(i64),
+}
+
+// By hand, so that what drops a cause calls this: a derived drop is repeated at each place where a cause is dropped.
+impl Drop for Cause {
+    fn drop(self) {
+        match self {
+            Cause::Raw(_fault) => {}
+            Cause::MissingField(_name)
+            | Cause::DuplicateField(_name)
+            | Cause::UnknownVariant(_name)
+            | Cause::UnknownField(_name)
+            | Cause::UnknownReference(_name)
+            | Cause::ExtraKey(_name)
+            | Cause::NotDate(_name)
+            | Cause::NotObjectId(_name) => {}
+            Cause::InvalidType(_)
+            | Cause::WrongKind(_)
+            | Cause::TopLevel(_)
+            | Cause::NotDocument(_) => {}
+            Cause::OutOfRange(_) | Cause::NoRfc3339(_) => {}
+            Cause::InvalidLength(_)
+            | Cause::BinaryTooLong(_)
+            | Cause::NotI32(_)
+            | Cause::NotI64(_) => {}
+            Cause::BadBody(_) => {}
+            Cause::Subtype(_) => {}
+            Cause::TooDeep
+            | Cause::NotOneChar
+            | Cause::NotUtf8
+            | Cause::NotBorrowed
+            | Cause::ContentsWanted
+            | Cause::UnitInDocument
+            | Cause::EmptyEnum
+            | Cause::ZeroByte
+            | Cause::BadUuid
+            | Cause::BadStep
+            | Cause::TooLong
+            | Cause::Failed
+            | Cause::TooSmall
+            | Cause::NotFitting
+            | Cause::Increment => {}
+        }
+    }
 }
 
 impl fmt::Display for Cause {

@@ -28,6 +28,7 @@ use Rattle.bson_laws.proofs.ParsedSizes.{sorted_twice}
 use Rattle.bson_tree_laws.specs.Alike.{HasFreeKeys, PairsHaveFreeKeys, TreesHaveFreeKeys}
 use Rattle.bson_tree_laws.proofs.Puts.{after, after_none, after_one, put_new, AreApart, apart_after, apart_none}
 use Rattle.bson_ways_laws.proofs.Likes.{AreCommon, Like, NodesLike, ItemsLike, never}
+use Rattle.bson_kinds.proofs.Apart.{no_some}
 
 -- ---- a value and its tree
 
@@ -204,4 +205,4 @@ bytes_like (suc n) b t ps e d f = by_case (is_closed b) d where
   by_case : (c : Bool) → unmarked (cond c (inner_node (suc n) kinds.EmbeddedDocument b) (node.broken kinds.EmbeddedDocument ValueUnclosed)) ≡ Some t
       → Like (cond c (inner_node (suc n) kinds.EmbeddedDocument b) (node.broken kinds.EmbeddedDocument ValueUnclosed)) (tree_node from_memory (tree.document ps) (suc n))
   by_case true h = document_made n (elements_like n) b t ps e h f
-  by_case false h = absurd cc
+  by_case false h = absurd (no_some h)

@@ -34,6 +34,7 @@ use Rattle.bson_tree_laws.specs.Alike.{HasFreeKeys, PairsHaveFreeKeys, TreesHave
 use Rattle.bson_ways_laws.specs.Ways.{IsBuilt, SuitsBothWays, FieldsSuitBothWays, PartsSuitBothWays, VariantsSuitBothWays, ContentSuitsBothWays, HasCommonKeys, PairsHaveCommonKeys, TreesHaveCommonKeys}
 use Rattle.bson_tree_laws.proofs.Puts.{unlike_sym}
 use Rattle.bson_tree_laws.proofs.Wraps.{kept}
+use Rattle.bson_kinds.proofs.Apart.{no_some}
 
 -- what it is spelled as repeats no key, and it is written alike
 abbrev pub Good : Value → Type 0
@@ -138,10 +139,10 @@ leaf_text : (k : LeafKind) (v : Value) (x : Utf8) → IsGivenLeafKey k v → key
 leaf_text anything (value.str a) x g p = tt
 leaf_text texts (value.str a) x g p = tt
 leaf_text raw_values (value.str a) x g p = tt
-leaf_text characters (value.character a) x g p = absurd cc
-leaf_text byte_strings (value.bytes a) x g p = absurd cc
-leaf_text byte_buffers (value.bytes a) x g p = absurd cc
-leaf_text ignored value.unit x g p = absurd cc
+leaf_text characters (value.character a) x g p = absurd (no_some p)
+leaf_text byte_strings (value.bytes a) x g p = absurd (no_some p)
+leaf_text byte_buffers (value.bytes a) x g p = absurd (no_some p)
+leaf_text ignored value.unit x g p = absurd (no_some p)
 leaf_text k v x g p = absurd g
 
 key_is_text : (at : Sight) (s : Form) (v : Value) (x : Utf8) → IsGivenKey at s v → key_text v ≡ Some x → IsTextKey v
@@ -315,7 +316,7 @@ chosen_content true c d o p e h = subst IsContent (some_is c d e) p
 chosen_content false c d o p e h = h e
 
 content_is : (vs : Variants) (name : Utf8) (c : Content) → AreVariants vs → content_of vs name ≡ Some c → IsContent c
-content_is no_variants name c p e = absurd cc
+content_is no_variants name c p e = absurd (no_some e)
 content_is (variant n d vs) name c p e = chosen_content (bytes_eq n name) d c (content_of vs name) p.1 e (content_is vs name c p.2)
 
 chosen_suits : (b : Bool) (c d : Content) (o : Option Content) → ContentSuitsBothWays c → cond b (Some c) o ≡ Some d → (o ≡ Some d → ContentSuitsBothWays d) → ContentSuitsBothWays d
@@ -323,7 +324,7 @@ chosen_suits true c d o p e h = subst ContentSuitsBothWays (some_is c d e) p
 chosen_suits false c d o p e h = h e
 
 content_suits : (vs : Variants) (name : Utf8) (c : Content) → VariantsSuitBothWays vs → content_of vs name ≡ Some c → ContentSuitsBothWays c
-content_suits no_variants name c p e = absurd cc
+content_suits no_variants name c p e = absurd (no_some e)
 content_suits (variant n d vs) name c p e = chosen_suits (bytes_eq n name) d c (content_of vs name) p.1 e (content_suits vs name c p.2)
 
 mutual

@@ -33,6 +33,7 @@ use Rattle.bson_ways_laws.proofs.BothWays.{Both, Equal, Any, KeyFree, IsFree, En
 use Rattle.bson_ways_laws.proofs.Likes.{SameBytes, Like, NodesLike, ItemsLike, mended_like, owned_like}
 use Rattle.bson_ways_laws.proofs.Likes.{boolean_like, integer_like, double_like, array_like, document_like, borrow_like, own_like, texts_like, buffers_like}
 use Rattle.bson_ways_laws.proofs.LikeTrees.{extended_like}
+use Rattle.bson_kinds.proofs.Apart.{no_ok}
 
 -- ---- entries
 
@@ -175,7 +176,7 @@ own_is : (l : Bool) (p a : Piece) → borrow_or_own l p ≡ Ok a → a.bytes ≡
 own_is true p a e = held p.in_input e where
   held : (b : Bool) → cond b (Ok p) (refused not_borrowed) ≡ Ok a → a.bytes ≡ p.bytes
   held true q = ap (λ (x : Piece). x.bytes) (sym (ok_is p a q))
-  held false q = absurd cc
+  held false q = absurd (no_ok q)
 own_is false p a e = ap (λ (x : Piece). x.bytes) (sym (ok_is (made p.bytes) a e))
 
 leaf_key_like : (l : Bool) (k : LeafKind) (p q : Piece) → IsBuilt k → SameBytes p q → Both (KeysLike p.bytes) (read_leaf_with no_extended l k (string p)) (read_leaf_with no_extended l k (string q))
@@ -197,9 +198,9 @@ leaf_key_like l k p q c h = λ a b e f. absurd cc
 unit_key_like : (x y : Utf8) (o p : Option Content) → x ≡ y → o ≡ p → Both (KeysLike x) (unit_of x o) (unit_of y p)
 unit_key_like x y o p h e a b f g = ((λ j. named_is x o a f j) ∙ ap value.unit_variant h ∙ sym (named_is y p b g), λ free. subst (λ (k : Value). KeyFree (key_text k)) (named_is x o a f) free) where
   named_is : (x : Utf8) (o : Option Content) (a : Marked) → unit_of x o ≡ Ok a → contents a ≡ value.unit_variant x
-  named_is x None a e = absurd cc
+  named_is x None a e = absurd (no_ok e)
   named_is x (Some unit_content) a e = ap contents (sym (ok_is (value.unit_variant (made x)) a e))
-  named_is x (Some c) a e = absurd cc
+  named_is x (Some c) a e = absurd (no_ok e)
 
 key_like : (s : Form) (p q : Piece) → SuitsBothWays s → SameBytes p q → Both (KeysLike p.bytes) (reads_key s p) (reads_key s q)
 key_like (leaf l) p q c h = leaf_key_like (borrows l) (leaf_kind l) p q c h
@@ -333,13 +334,13 @@ unit_like x y (Some c) p h = λ a b e f. absurd cc
 
 -- the contents of a tuple variant, and those of a struct variant, that are taken from a tree are taken as in bytes
 tuple_content_ok : (read : Nodes → Reading Marked) (ns : Nodes) (v : Marked) → tuple_content_at origins.Tree read ns ≡ Ok v → read ns ≡ Ok v
-tuple_content_ok read ended v e = absurd cc
-tuple_content_ok read (faulty f) v e = absurd cc
+tuple_content_ok read ended v e = absurd (no_ok e)
+tuple_content_ok read (faulty f) v e = absurd (no_ok e)
 tuple_content_ok read (then_node k n ns) v e = e
 
 struct_content_ok : (xs : Slots) (n : Node) (vs : MarkedFields) → struct_content_at origins.Tree xs n ≡ Ok vs → read_structure dropped xs n ≡ Ok vs
 struct_content_ok xs (document z ns) vs e = e
-struct_content_ok xs n vs e = absurd cc
+struct_content_ok xs n vs e = absurd (no_ok e)
 
 abbrev ContentsLike : (Utf8 → Node → Reading Marked) → (Utf8 → Node → Reading Marked) → Type 0
 ContentsLike f g = (key : Utf8) (n m : Node) → (IsCommon key → Like n m) → Both SameValue (f key n) (g key m)

@@ -14,6 +14,7 @@ use Rattle.bson_laws.specs.Taken.{boolean_of, integer_of, double_of, document_of
 use Rattle.bson_laws.proofs.MendedTexts.{mended_whole, whole_mended}
 use Rattle.bson_ways_laws.specs.Ways.{IsCommon}
 use Rattle.bson_ways_laws.proofs.BothWays.{Both, Equal, both_ok, both_bind, both_map, both_inside, both_judged}
+use Rattle.bson_kinds.proofs.Apart.{no_ok}
 
 -- ---- the relation
 
@@ -182,7 +183,7 @@ pub borrow_like : (p q : Piece) → SameBytes p q → Both SameBytes (borrow p) 
 borrow_like p q h a b e f = sym (ap (λ (x : Piece). x.bytes) (is p a p.in_input e)) ∙ h ∙ ap (λ (x : Piece). x.bytes) (is q b q.in_input f) where
   is : (x y : Piece) (c : Bool) → cond c (Ok x) (refused not_borrowed) ≡ Ok y → x ≡ y
   is x y true g = ok_is x y g
-  is x y false g = absurd cc
+  is x y false g = absurd (no_ok g)
 
 pub own_like : (l : Bool) (p q : Piece) → SameBytes p q → Both SameBytes (borrow_or_own l p) (borrow_or_own l q)
 own_like true p q h = borrow_like p q h
@@ -192,7 +193,7 @@ text_like : (p q : Piece) → SameBytes p q → Both SameBytes (as_text p) (as_t
 text_like p q h a b e f = sym (ap (λ (x : Piece). x.bytes) (is p a (is_utf8 p.bytes) e)) ∙ h ∙ ap (λ (x : Piece). x.bytes) (is q b (is_utf8 q.bytes) f) where
   is : (x y : Piece) (c : Bool) → cond c (Ok x) (refused not_utf8) ≡ Ok y → x ≡ y
   is x y true g = ok_is x y g
-  is x y false g = absurd cc
+  is x y false g = absurd (no_ok g)
 
 -- a mark changes no byte
 pub owned_bytes : (u : Bool) (p : Piece) → SameBytes (owned_under_mark u p) p

@@ -40,6 +40,7 @@ use Rattle.bson_ways_laws.proofs.SimpleWrites.{back, forth}
 use Rattle.bson_ways_laws.proofs.Twins.{Twin, SameContents, IsQuiet, reads_twin}
 use Rattle.bson_ways_laws.proofs.TwoWays.{same_form, bytes_node, pairs_node, bytes_read, pairs_read, top_is, top_kind, input_like, form_makes}
 use Rattle.bson_ways_laws.proofs.WaysUnrolled.{simple_whole}
+use Rattle.bson_kinds.proofs.Apart.{no_ok}
 
 -- ---- such a shape suits both ways
 
@@ -70,13 +71,13 @@ mutual
 
 twin_left : (q r : Reading Marked) (v : Marked) → Twin SameContents q r → q ≡ Ok v → (w : Marked) × (r ≡ Ok w) × (contents v ≡ contents w)
 twin_left (Ok a) (Ok b) v h e = (b, refl, ap contents (sym (ok_is a v e)) ∙ h)
-twin_left (Err f) (Err g) v h e = absurd cc
+twin_left (Err f) (Err g) v h e = absurd (no_ok e)
 twin_left (Err f) (Ok b) v h e = absurd h
 twin_left (Ok a) (Err g) v h e = absurd h
 
 twin_right : (q r : Reading Marked) (w : Marked) → Twin SameContents q r → r ≡ Ok w → (v : Marked) × (q ≡ Ok v) × (contents v ≡ contents w)
 twin_right (Ok a) (Ok b) w h e = (a, refl, h ∙ ap contents (ok_is b w e))
-twin_right (Err f) (Err g) w h e = absurd cc
+twin_right (Err f) (Err g) w h e = absurd (no_ok e)
 twin_right (Err f) (Ok b) w h e = absurd h
 twin_right (Ok a) (Err g) w h e = absurd h
 
@@ -98,7 +99,7 @@ form_enveloped : (s : Form) (bytes : Bytes) (d : Value) → document_at s bytes 
 form_enveloped s bytes d e = by_case (envelope bytes) refl e where
   by_case : (r : Result Bytes Error) → envelope bytes ≡ r → result_map contents (read_in s r) ≡ Ok d → (b : Bytes) × (envelope bytes ≡ Ok b)
   by_case (Ok b) is q = (b, is)
-  by_case (Err f) is q = absurd cc
+  by_case (Err f) is q = absurd (no_ok q)
 
 -- a tree that is of the kind of a document, and is not given by its bytes, is one
 document_of_kind : (u : Tree) → IsNotRaw u → kind u ≡ EmbeddedDocument → IsDocument u

@@ -36,6 +36,7 @@ use Rattle.bson_ways_laws.proofs.GivenAlike.{given_good}
 use Rattle.bson_ways_laws.proofs.Likes.{Like}
 use Rattle.bson_ways_laws.proofs.LikeReads.{reads_like}
 use Rattle.bson_ways_laws.proofs.WaysUnrolled.{suits_whole}
+use Rattle.bson_kinds.proofs.Apart.{no_ok}
 
 -- ---- such a form is settled as it stands
 
@@ -100,7 +101,7 @@ bytes_read s bytes d same e = by_case (envelope bytes) (λ b q. (frame bytes b q
       let m = map_ok contents (answered (reads (settled false s) (bytes_node b))) d q in
       let there : reads (settled false s) (bytes_node b) ≡ Ok m.0 = answered_is (reads (settled false s) (bytes_node b)) m.0 m.1 in
       (m.0, (λ i. reads (sym same i) (bytes_node (is b refl i))) ∙ there, m.2)
-  by_case (Err f) is q = absurd cc
+  by_case (Err f) is q = absurd (no_ok q)
 
 -- what is read from a document in memory is read from its node
 pub pairs_read : (s : Form) (ps : Pairs) (w : Value) → settled false s ≡ s → result_map contents (tree_at false s (document ps)) ≡ Ok w → (m : Marked) × (reads_from origins.Tree s (pairs_node ps) ≡ Ok m) × (contents m ≡ w)
@@ -110,11 +111,11 @@ pairs_read s ps w same e =
 
 pub top_is : (k : ElementType) (r : Writing Tree) (t : Tree) → at_top k r ≡ Ok t → r ≡ Ok t
 top_is EmbeddedDocument r t e = e
-top_is k r t e = absurd cc
+top_is k r t e = absurd (no_ok e)
 
 pub top_kind : (k : ElementType) (r : Writing Tree) (t : Tree) → at_top k r ≡ Ok t → k ≡ EmbeddedDocument
 top_kind EmbeddedDocument r t e = refl
-top_kind k r t e = absurd cc
+top_kind k r t e = absurd (no_ok e)
 
 -- the node of the document of some bytes is like that of the bytes
 pub input_like : (bytes : Bytes) (ps : Pairs) → HasFreeInput bytes → document_pairs bytes ≡ Ok ps → Like (bytes_node bytes) (pairs_node ps)

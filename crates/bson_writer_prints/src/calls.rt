@@ -23,13 +23,13 @@ enum Part {
 fn add_part(lines: &mut Lines, writer: &mut DocumentWriter<'_>, part: Part, value: &Datum<'_>) {
     let mut steps = Steps::<Tally>::new();
     match part {
-        Part::Element => lines.made("element", &writer.element(value, &mut steps)),
+        Part::Element => lines.made("element", writer.element(value, &mut steps)),
         Part::Entry(key) => {
             let key = Datum::Str(Text::Borrowed(key));
-            lines.made("entry", &writer.entry(&key, value, &mut steps));
+            lines.made("entry", writer.entry(&key, value, &mut steps));
         }
         Part::EntryOfNumber => {
-            lines.made("entry", &writer.entry(&Datum::I32(1), value, &mut steps));
+            lines.made("entry", writer.entry(&Datum::I32(1), value, &mut steps));
         }
     }
 }
@@ -42,7 +42,7 @@ fn add_writer(lines: &mut Lines, out: &mut Out, is_array: bool, parts: &[Part], 
             for part in parts {
                 add_part(lines, &mut writer, *part, value);
             }
-            lines.made("end", &writer.end(&mut steps));
+            lines.made("end", writer.end(&mut steps));
         }
         Err(error) => lines.text("start", &error),
     }
@@ -73,8 +73,8 @@ fn add_variant_part(
 ) {
     let mut steps = Steps::<Tally>::new();
     match part {
-        Part::Element => lines.made("element", &writer.element(value, &mut steps)),
-        Part::Entry(key) => lines.made("entry", &writer.entry(key, value, &mut steps)),
+        Part::Element => lines.made("element", writer.element(value, &mut steps)),
+        Part::Entry(key) => lines.made("entry", writer.entry(key, value, &mut steps)),
         Part::EntryOfNumber => {}
     }
 }
@@ -94,7 +94,7 @@ fn add_variant_writer(
             for part in parts {
                 add_variant_part(lines, &mut writer, *part, value);
             }
-            lines.made("end", &writer.end(&mut steps));
+            lines.made("end", writer.end(&mut steps));
         }
         Err(error) => lines.text("start", &error),
     }

@@ -8,9 +8,9 @@ use std::alloc::{AllocError, Global};
 
 /// Adds why a value is refused by the writer of trees, with its path and without it, and by that of bytes.
 fn add_refusal(lines: &mut Lines, alloc: Global, value: &Datum<'_>) {
-    lines.made("to_bson_at", &to_bson_at(alloc, value));
-    lines.made("serialize", &Serializer::new().serialize(alloc, value));
-    lines.bytes("to_vec_at", &to_vec_at(alloc, value));
+    lines.made("to_bson_at", to_bson_at(alloc, value));
+    lines.made("serialize", Serializer::new().serialize(alloc, value));
+    lines.bytes("to_vec_at", to_vec_at(alloc, value));
 }
 
 /// Adds why a value that was made is refused.

@@ -16,9 +16,9 @@ fn add_answers(lines: &mut Lines, writer: &mut ValueWriter<'_>, fields: &[Field<
     lines.debug("kind", &writer.element_type());
     for field in fields {
         let answer = writer.field(field.name.as_str(), &field.value, &mut steps);
-        lines.made("field", &answer);
+        lines.made("field", answer);
     }
-    lines.made("end", &writer.end(&mut steps));
+    lines.made("end", writer.end(&mut steps));
 }
 
 /// Adds what the writer of a struct behind an output answers.
@@ -40,13 +40,13 @@ fn add_by_fields(lines: &mut Lines, alloc: Global, name: &str, fields: &[Field<'
 /// Adds a document that is written behind an output.
 fn add_appended(lines: &mut Lines, out: &mut Out, document: &Datum<'_>) {
     let mut steps = Steps::<Tally>::new();
-    lines.made("to_buf", &to_buf(document, out, &mut steps));
+    lines.made("to_buf", to_buf(document, out, &mut steps));
     add_output(lines, out);
 }
 
 /// Adds a document that is written at once.
 fn add_document(lines: &mut Lines, alloc: Global, document: &Datum<'_>) {
-    lines.bytes("to_vec_at", &to_vec_at(alloc, document));
+    lines.bytes("to_vec_at", to_vec_at(alloc, document));
     add_appended(lines, &mut output(alloc), document);
 }
 

@@ -20,21 +20,21 @@ fn add_whole(lines: &mut Lines, alloc: Global, value: &Datum<'_>) {
     let options = SerializerOptions::default();
     lines.debug("options by default", &options);
     lines.debug("options", &compact());
-    lines.made("to_bson_at", &to_bson_at(alloc, value));
+    lines.made("to_bson_at", to_bson_at(alloc, value));
     lines.made(
         "to_bson_with_options_at",
-        &to_bson_with_options_at(alloc, value, compact()),
+        to_bson_with_options_at(alloc, value, compact()),
     );
     let writer = Serializer::new_with_options(options);
-    lines.made("serialize", &writer.serialize(alloc, value));
+    lines.made("serialize", writer.serialize(alloc, value));
 }
 
 /// Adds a value by the calls that make a document.
 fn add_documents(lines: &mut Lines, alloc: Global, value: &Datum<'_>) {
-    lines.made("to_document_at", &to_document_at(alloc, value));
+    lines.made("to_document_at", to_document_at(alloc, value));
     lines.made(
         "to_document_with_options_at",
-        &to_document_with_options_at(alloc, value, compact()),
+        to_document_with_options_at(alloc, value, compact()),
     );
 }
 
@@ -48,7 +48,7 @@ fn object_id<'x>(alloc: Global) -> Result<Datum<'x>, AllocError> {
 /// Adds a map that is folded.
 fn add_folded(lines: &mut Lines, alloc: Global) {
     match object_id(alloc) {
-        Ok(map) => lines.made("folded", &to_bson_at(alloc, &map)),
+        Ok(map) => lines.made("folded", to_bson_at(alloc, &map)),
         Err(error) => lines.text("no map", &error),
     }
 }
@@ -56,37 +56,37 @@ fn add_folded(lines: &mut Lines, alloc: Global) {
 /// Adds a sequence of a value.
 fn add_sequence(lines: &mut Lines, alloc: Global, value: &Datum<'_>) {
     let mut writer = Serializer::new().serialize_seq(alloc);
-    lines.made("element of a sequence", &writer.serialize_element(value));
-    lines.made("end", &writer.end());
+    lines.made("element of a sequence", writer.serialize_element(value));
+    lines.made("end", writer.end());
 }
 
 /// Adds a tuple of a value.
 fn add_tuple(lines: &mut Lines, alloc: Global, value: &Datum<'_>) {
     let mut writer = Serializer::new().serialize_tuple(alloc);
-    lines.made("element of a tuple", &writer.serialize_element(value));
-    lines.made("end", &writer.end());
+    lines.made("element of a tuple", writer.serialize_element(value));
+    lines.made("end", writer.end());
 }
 
 /// Adds a tuple struct of a value.
 fn add_tuple_struct(lines: &mut Lines, alloc: Global, value: &Datum<'_>) {
     let mut writer = Serializer::new().serialize_tuple_struct(alloc);
-    lines.made("field of a tuple struct", &writer.serialize_field(value));
-    lines.made("end", &writer.end());
+    lines.made("field of a tuple struct", writer.serialize_field(value));
+    lines.made("end", writer.end());
 }
 
 /// Adds a struct of a value.
 fn add_structure(lines: &mut Lines, alloc: Global, value: &Datum<'_>) {
     let mut writer = Serializer::new().serialize_struct(alloc);
-    lines.made("field of a struct", &writer.serialize_field("a", value));
-    lines.made("end", &writer.end());
+    lines.made("field of a struct", writer.serialize_field("a", value));
+    lines.made("end", writer.end());
 }
 
 /// Adds a tuple variant of a value.
 fn add_tuple_variant(lines: &mut Lines, alloc: Global, value: &Datum<'_>) {
     match Serializer::new().serialize_tuple_variant(alloc, "a") {
         Ok(mut writer) => {
-            lines.made("field of a tuple variant", &writer.serialize_field(value));
-            lines.made("end", &writer.end());
+            lines.made("field of a tuple variant", writer.serialize_field(value));
+            lines.made("end", writer.end());
         }
         Err(error) => lines.text("no tuple variant", &error),
     }
@@ -98,9 +98,9 @@ fn add_struct_variant(lines: &mut Lines, alloc: Global, value: &Datum<'_>) {
         Ok(mut writer) => {
             lines.made(
                 "field of a struct variant",
-                &writer.serialize_field("a", value),
+                writer.serialize_field("a", value),
             );
-            lines.made("end", &writer.end());
+            lines.made("end", writer.end());
         }
         Err(error) => lines.text("no struct variant", &error),
     }
@@ -108,30 +108,30 @@ fn add_struct_variant(lines: &mut Lines, alloc: Global, value: &Datum<'_>) {
 
 /// Adds the answer to a key.
 fn add_key(lines: &mut Lines, writer: &mut MapSerializer, key: &Datum<'_>) {
-    lines.made("key of a map", &writer.serialize_key(key));
+    lines.made("key of a map", writer.serialize_key(key));
 }
 
 /// Adds a map of a value under the key `a`.
 fn add_map(lines: &mut Lines, alloc: Global, value: &Datum<'_>) {
     let mut writer = Serializer::new().serialize_map(alloc);
     add_key(lines, &mut writer, &Datum::Str(Text::Borrowed("a")));
-    lines.made("value of a map", &writer.serialize_value(value));
-    lines.made("end", &writer.end());
+    lines.made("value of a map", writer.serialize_value(value));
+    lines.made("end", writer.end());
 }
 
 /// Adds a map of a value that was given no key, and of a key that is given no value.
 fn add_map_without_keys(lines: &mut Lines, alloc: Global, value: &Datum<'_>) {
     let mut writer = Serializer::new().serialize_map(alloc);
-    lines.made("value of a map", &writer.serialize_value(value));
+    lines.made("value of a map", writer.serialize_value(value));
     add_key(lines, &mut writer, &Datum::Str(Text::Borrowed("a")));
-    lines.made("end", &writer.end());
+    lines.made("end", writer.end());
 }
 
 /// Adds a map with a value for its key.
 fn add_map_of_key(lines: &mut Lines, alloc: Global, key: &Datum<'_>) {
     let mut writer = Serializer::new().serialize_map(alloc);
     add_key(lines, &mut writer, key);
-    lines.made("end", &writer.end());
+    lines.made("end", writer.end());
 }
 
 /// Adds a value by each call.

@@ -1,4 +1,4 @@
--- What must be written for a call that lists the refused documents.
+-- What must be written for a call that lists the refused documents. Source: this library's own calls with buffers.
 use Rattle.std.specs.Prelude.{◌≡◌, ◌+◌, ℕ, List, [], ◌∷◌, ◌++◌, length, take, drop, codes, string_bytes}
 use Rattle.std.specs.List.{sum_by}
 use Rattle.bson_kinds.specs.Text.{Bytes, Utf8}

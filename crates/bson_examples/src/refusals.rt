@@ -1,13 +1,13 @@
 // The examples over refusals and their places.
-use crate::people::ADA;
+use crate::places::{refusal, refused_key};
+use crate::printing::ADA;
 use bson::{Shape, from_slice_at};
-use bson_examples::*;
 use bson_lines::Lines;
 use std::alloc::Global;
 
 /// Adds what is wrong with a shape, or with the document at it.
 fn add_refusal(lines: &mut Lines, alloc: Global, notation: &str) {
-    lines.made("refusal", &refusal(alloc, notation, ADA));
+    lines.made("refusal", refusal(alloc, notation, ADA));
 }
 
 /// Adds the key of a value that is refused at a shape.

@@ -1,42 +1,34 @@
-// The examples over the document of a person.
-use bson::{Bson, Document, Shape, from_slice_at};
-use bson_example_values::*;
-use bson_examples::*;
+// What the examples return: over the values of a person, documents in memory, and an extended value.
+use crate::accessors::{age_of, first_city};
+use crate::extended::{event, id_of};
+use crate::parts::{person_by_fields, person_tree_by_fields};
+use crate::trees::{ada, document_bytes, document_of, first_null};
+use bson::{Bson, DateTime, Document, ObjectId, Shape, from_slice_at, ser, to_vec_at};
 use bson_lines::Lines;
 use std::alloc::{AllocError, Global};
 
 /// The document `{name: "Ada", age: 36}`.
-pub const ADA: &[u8] = b"\x1c\0\0\0\x02name\0\x04\0\0\0Ada\0\x10age\0\x24\0\0\0\0";
+const ADA: &[u8] = b"\x1c\0\0\0\x02name\0\x04\0\0\0Ada\0\x10age\0\x24\0\0\0\0";
 
-/// Adds the ages of the person who is read of bytes and of a document in memory.
-fn add_ages(lines: &mut Lines, alloc: Global, shape: &Shape) {
-    lines.made("age", &age(alloc, shape, ADA));
+/// Adds the age of a person.
+fn add_age_at(lines: &mut Lines, alloc: Global, shape: &Shape) {
     match from_slice_at(alloc, shape, ADA) {
         Ok(person) => lines.debug("age_of", &age_of(&person)),
         Err(error) => lines.text("no value", &error),
     }
-    match ada(alloc) {
-        Ok(ada) => lines.made("age_in_memory", &age_in_memory(alloc, shape, ada)),
-        Err(error) => lines.text("no document", &error),
-    }
 }
 
-/// A person is read and written.
-pub fn add_person(lines: &mut Lines, alloc: Global) {
-    match person_shape(alloc) {
-        Ok(shape) => add_ages(lines, alloc, &shape),
+/// The age of a person is found.
+pub fn add_age(lines: &mut Lines, alloc: Global) {
+    match Shape::parse(alloc, "{name:string,age:u8}") {
+        Ok(shape) => add_age_at(lines, alloc, &shape),
         Err(error) => lines.text("no shape", &error),
-    }
-    lines.bytes("person_bytes", &person_bytes(alloc, "Ada", 36));
-    match person_document(alloc, "Ada", 36) {
-        Ok(document) => add_tree(lines, alloc, "person_document", &document),
-        Err(error) => lines.text("no person_document", &error),
     }
 }
 
 /// A person is written field by field.
 pub fn add_parts(lines: &mut Lines, alloc: Global) {
-    lines.bytes("person_by_fields", &person_by_fields(alloc, "Ada", 36));
+    lines.bytes("person_by_fields", person_by_fields(alloc, "Ada", 36));
     match person_tree_by_fields(alloc, "Ada", 36) {
         Ok(Bson::Document(tree)) => add_tree(lines, alloc, "person_tree_by_fields", &tree),
         Ok(_) => lines.line("no document"),
@@ -62,20 +54,6 @@ pub fn add_city(lines: &mut Lines, alloc: Global) {
     }
 }
 
-/// Adds a document that is recast at a shape, or left as it is.
-fn add_upgraded_at(lines: &mut Lines, alloc: Global, notation: &str) {
-    match Shape::parse(alloc, notation) {
-        Ok(shape) => lines.bytes("upgraded", &upgraded(alloc, &shape, ADA)),
-        Err(error) => lines.text("no shape", &error),
-    }
-}
-
-/// A document is recast, and another is left as it is.
-pub fn add_upgraded(lines: &mut Lines, alloc: Global) {
-    add_upgraded_at(lines, alloc, "{age:i64}");
-    add_upgraded_at(lines, alloc, "{name:u8}");
-}
-
 /// The document of the person, with a null behind it.
 fn with_null(alloc: Global) -> Result<Document, AllocError> {
     let mut document = ada(alloc)?;
@@ -85,7 +63,7 @@ fn with_null(alloc: Global) -> Result<Document, AllocError> {
 
 /// Adds the bytes of a document in memory.
 fn add_tree(lines: &mut Lines, alloc: Global, name: &str, document: &Document) {
-    lines.bytes(name, &document_bytes(alloc, document));
+    lines.bytes(name, document_bytes(alloc, document));
 }
 
 /// Adds the first key of a document whose value is null.
@@ -107,5 +85,37 @@ pub fn add_trees(lines: &mut Lines, alloc: Global) {
     match document_of(alloc, ADA) {
         Ok(document) => add_tree(lines, alloc, "document_of", &document),
         Err(error) => lines.text("no document_of", &error),
+    }
+}
+
+/// The bytes that an event is written as.
+fn event_bytes(alloc: Global) -> ser::Result<Vec<u8>> {
+    let id = ObjectId(*b"\x50\x7f\x1f\x77\xbc\xf8\x6c\xd7\x99\x43\x90\x11");
+    let event = event(alloc, id, DateTime::from_millis(1700000000000))?;
+    to_vec_at(alloc, &event)
+}
+
+/// Adds the ObjectId of an event that is read from bytes.
+fn add_id_at(lines: &mut Lines, alloc: Global, shape: &Shape, bytes: &[u8]) {
+    match from_slice_at(alloc, shape, bytes) {
+        Ok(event) => lines.debug("id_of", &id_of(&event).map(|id| id.0)),
+        Err(error) => lines.text("no event", &error),
+    }
+}
+
+/// Adds an event's bytes, and the ObjectId that is read of them.
+fn add_id(lines: &mut Lines, alloc: Global, bytes: &[u8]) {
+    lines.hex("event", bytes);
+    match Shape::parse(alloc, "{_id:oid,at:datetime}") {
+        Ok(shape) => add_id_at(lines, alloc, &shape, bytes),
+        Err(error) => lines.text("no shape", &error),
+    }
+}
+
+/// An event is written, and its ObjectId read.
+pub fn add_event(lines: &mut Lines, alloc: Global) {
+    match event_bytes(alloc) {
+        Ok(bytes) => add_id(lines, alloc, &bytes),
+        Err(error) => lines.text("no event_bytes", &error),
     }
 }

@@ -1,5 +1,8 @@
-// The examples over types of one's own.
-use bson_example_types::*;
+// What the examples return, for a cat and for a person with two pets.
+use crate::own_types::{
+    cat_bytes, cat_of, household_bytes, household_document, household_in, household_of,
+};
+use crate::{Cat, Person, Pet};
 use bson_lines::Lines;
 use std::alloc::{AllocError, Global};
 
@@ -30,7 +33,7 @@ fn add_cat(lines: &mut Lines, alloc: Global, cat: &Cat) {
     match cat_bytes(alloc, cat) {
         Ok(bytes) => {
             lines.hex("cat_bytes", &bytes);
-            lines.made("cat_of", &cat_of(alloc, &bytes));
+            lines.made("cat_of", cat_of(alloc, &bytes));
         }
         Err(error) => lines.text("no cat_bytes", &error),
     }
@@ -39,7 +42,7 @@ fn add_cat(lines: &mut Lines, alloc: Global, cat: &Cat) {
 /// Adds the person who is read of the bytes of a person.
 fn add_read(lines: &mut Lines, alloc: Global, person: &Person) {
     match household_bytes(alloc, person) {
-        Ok(bytes) => lines.made("household_of", &household_of(alloc, &bytes)),
+        Ok(bytes) => lines.made("household_of", household_of(alloc, &bytes)),
         Err(error) => lines.text("no household_bytes", &error),
     }
 }
@@ -47,7 +50,7 @@ fn add_read(lines: &mut Lines, alloc: Global, person: &Person) {
 /// Adds the person who is read of the document that a person is.
 fn add_again(lines: &mut Lines, alloc: Global, person: &Person) {
     match household_document(alloc, person) {
-        Ok(document) => lines.made("household_in", &household_in(alloc, document)),
+        Ok(document) => lines.made("household_in", household_in(alloc, document)),
         Err(error) => lines.text("no household_document", &error),
     }
 }
@@ -59,7 +62,7 @@ fn add_household(lines: &mut Lines, alloc: Global, person: &Person) {
 }
 
 /// A cat and a person are written and read.
-pub fn add_cats(lines: &mut Lines, alloc: Global) {
+pub fn add_all(lines: &mut Lines, alloc: Global) {
     match garfield(alloc) {
         Ok(cat) => add_cat(lines, alloc, &cat),
         Err(error) => lines.text("no cat", &error),
