@@ -20,7 +20,7 @@ pub use Rattle.bson_base.specs.Sorted
 pub use Rattle.bson_base.specs.Sound
 pub use Rattle.bson_kinds.specs.Text
 pub use Rattle.bson_base.specs.Tree
-pub use Rattle.bson_made.specs.Made as MadeRows
+pub use Rattle.bson_recast_run.specs.Made as MadeRows
 pub use Rattle.bson_io.specs.Adapters
 pub use Rattle.bson_io.specs.Ends
 pub use Rattle.bson_io.specs.Memory
@@ -197,7 +197,8 @@ pub use Rattle.bson_tree_recast.specs.ByTree
 pub use Rattle.bson_tree_recast.specs.Printed as RecastPrinted
 pub use Rattle.bson_tree_recast.specs.Recast
 pub use Rattle.bson_tree_recast.specs.Ways as TreeRecastWays
-pub use Rattle.bson_recast_run.specs.Recasting
+pub use Rattle.bson_recasting.specs.Recasting
+pub use Rattle.bson_recasting.specs.RefusedLines
 pub use Rattle.bson_recast_run.specs.Rows as RunRows
 pub use Rattle.bson_migrate_run.specs.Lines
 pub use Rattle.bson_migrate_run.specs.Migrating

@@ -5,7 +5,7 @@ ghost use Rattle.bson_buffers.specs.Lists.{printed_front};
 ghost use Rattle.bson_buffers.specs.Prover.Listed.{IsReason};
 
 use crate::status::Status;
-use bson_recast_run::RecastError;
+use bson_recasting::RecastError;
 use bson_values::{de, ser};
 use std::alloc::{AllocError, Global};
 

@@ -11,7 +11,7 @@ use crate::asking::asked;
 use crate::expected::{Expected, deliver};
 use crate::report::Report;
 use crate::status::Status;
-use bson_recast_run::{RecastError, recast};
+use bson_recasting::{RecastError, recast};
 use std::alloc::{AllocError, Global};
 
 // What must be written for a document at a shape. An error means out of memory.

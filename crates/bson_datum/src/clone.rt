@@ -2,12 +2,13 @@ ghost use Rattle.std.specs.Prelude.{◌≡◌, ◌∷◌, IfOk, false};
 ghost use Rattle.bson_values.specs.TextView.{text_view};
 ghost use Rattle.bson_rawdoc.specs.DocumentView.{document_bytes};
 ghost use Rattle.bson_datum.specs.RawView.{raw_document_view, raw_array_view};
-ghost use Rattle.bson_values.specs.Value.{newtype, newtype_variant, tuple_structure, tuple_variant, structure, structure_variant};
+ghost use Rattle.bson_values.specs.Value.{sequence, tuple, map, newtype, newtype_variant, tuple_structure, tuple_variant, structure, structure_variant};
 ghost use Rattle.bson_datum.specs.View.{view, items_view, entry_view, entries_view, field_view, fields_view};
 ghost use Rattle.bson_values.specs.Pieces.{text_borrowed};
 ghost use Rattle.bson_datum.specs.Borrowed.{raw_document_borrowed, raw_array_borrowed, borrowed_parts, items_borrowed, entry_borrowed, entries_borrowed, field_borrowed, fields_borrowed, NoneBorrowed, IsOwned};
 
 use crate::{Datum, Entry, Field, RawArr, RawDoc};
+use bson_growing::{boxed, push};
 use bson_rawdoc::{RawArrayBuf, RawDocument, RawDocumentBuf};
 use bson_values::Text;
 use std::alloc::{AllocError, Global};
@@ -121,7 +122,6 @@ impl<'a> Datum<'a> {
 
 // The same datum again.
 #[cycle(copy)]
-#[tactic(auto, using(crate::proofs::Views::item_rows_items, crate::proofs::Views::entry_rows_items, crate::proofs::Views::rows_items, crate::proofs::BorrowedRows::item_rows_are_borrowed, crate::proofs::BorrowedRows::entry_rows_are_borrowed, crate::proofs::BorrowedRows::rows_are_borrowed))]
 fn copy<'a>(alloc: Global, datum: &Datum<'a>) -> Result<Datum<'a>, AllocError>
     ensures equal { IfOk result (λ d. view d ≡ view datum.now) }
     ensures borrowed { IfOk result (λ d. borrowed_parts d ≡ borrowed_parts datum.now) }
@@ -138,10 +138,10 @@ fn copy<'a>(alloc: Global, datum: &Datum<'a>) -> Result<Datum<'a>, AllocError>
         Datum::U64(number) => Ok(Datum::U64(*number)),
         Datum::Double(number) => Ok(Datum::Double(*number)),
         Datum::Char(character) => Ok(Datum::Char(*character)),
-        Datum::Str(text) => Ok(Datum::Str(text.try_clone(alloc)?)),
-        Datum::Bytes(bytes) => Ok(Datum::Bytes(bytes.try_clone(alloc)?)),
+        Datum::Str(text) => text.try_clone(alloc).map(Datum::Str),
+        Datum::Bytes(bytes) => bytes.try_clone(alloc).map(Datum::Bytes),
         Datum::None => Ok(Datum::None),
-        Datum::Some(value) => Ok(Datum::Some(copy_box(alloc, value)?)),
+        Datum::Some(value) => copy_box(alloc, value).map(Datum::Some),
         Datum::Unit => Ok(Datum::Unit),
         Datum::UnitStruct { name } => Ok(Datum::UnitStruct {
             name: name.try_clone(alloc)?,
@@ -151,20 +151,50 @@ fn copy<'a>(alloc: Global, datum: &Datum<'a>) -> Result<Datum<'a>, AllocError>
         }),
         Datum::NewtypeStruct { name, value } => copy_newtype(alloc, name, value),
         Datum::NewtypeVariant { variant, value } => copy_newtype_variant(alloc, variant, value),
-        Datum::Seq(items) => Ok(Datum::Seq(copy_items(alloc, items)?)),
-        Datum::Tuple(items) => Ok(Datum::Tuple(copy_items(alloc, items)?)),
+        Datum::Seq(items) => copy_sequence(alloc, items),
+        Datum::Tuple(items) => copy_tuple(alloc, items),
         Datum::TupleStruct { name, items } => copy_tuple_struct(alloc, name, items),
         Datum::TupleVariant { variant, items } => copy_tuple_variant(alloc, variant, items),
-        Datum::Map(entries) => Ok(Datum::Map(copy_entries(alloc, entries)?)),
+        Datum::Map(entries) => copy_map(alloc, entries),
         Datum::Struct { name, fields } => copy_struct(alloc, name, fields),
         Datum::StructVariant { variant, fields } => copy_struct_variant(alloc, variant, fields),
-        Datum::RawDocument(document) => Ok(Datum::RawDocument(document.try_clone(alloc)?)),
-        Datum::RawArray(array) => Ok(Datum::RawArray(array.try_clone(alloc)?)),
+        Datum::RawDocument(document) => document.try_clone(alloc).map(Datum::RawDocument),
+        Datum::RawArray(array) => array.try_clone(alloc).map(Datum::RawArray),
         Datum::Mode { readable, compact } => Ok(Datum::Mode {
             readable: copy_box(alloc, readable)?,
             compact: copy_box(alloc, compact)?,
         }),
     }
+}
+
+// The same sequence again.
+#[cycle(copy)]
+#[tactic(auto, using(crate::proofs::Views::item_rows_items, crate::proofs::BorrowedRows::item_rows_are_borrowed))]
+fn copy_sequence<'a>(alloc: Global, items: &[Datum<'a>]) -> Result<Datum<'a>, AllocError>
+    ensures equal { IfOk result (λ d. view d ≡ sequence (items_view items.now)) }
+    ensures borrowed { IfOk result (λ d. borrowed_parts d ≡ items_borrowed items.now) }
+{
+    Ok(Datum::Seq(copy_items(alloc, items)?))
+}
+
+// The same tuple again.
+#[cycle(copy)]
+#[tactic(auto, using(crate::proofs::Views::item_rows_items, crate::proofs::BorrowedRows::item_rows_are_borrowed))]
+fn copy_tuple<'a>(alloc: Global, items: &[Datum<'a>]) -> Result<Datum<'a>, AllocError>
+    ensures equal { IfOk result (λ d. view d ≡ tuple (items_view items.now)) }
+    ensures borrowed { IfOk result (λ d. borrowed_parts d ≡ items_borrowed items.now) }
+{
+    Ok(Datum::Tuple(copy_items(alloc, items)?))
+}
+
+// The same map again.
+#[cycle(copy)]
+#[tactic(auto, using(crate::proofs::Views::entry_rows_items, crate::proofs::BorrowedRows::entry_rows_are_borrowed))]
+fn copy_map<'a>(alloc: Global, entries: &[Entry<'a>]) -> Result<Datum<'a>, AllocError>
+    ensures equal { IfOk result (λ d. view d ≡ map (entries_view entries.now)) }
+    ensures borrowed { IfOk result (λ d. borrowed_parts d ≡ entries_borrowed entries.now) }
+{
+    Ok(Datum::Map(copy_entries(alloc, entries)?))
 }
 
 // The same newtype again.
@@ -274,7 +304,7 @@ fn copy_box<'a>(alloc: Global, value: &Datum<'a>) -> Result<Box<Datum<'a>>, Allo
     ensures borrowed { IfOk result (λ b. borrowed_parts b.value ≡ borrowed_parts value.now) }
 {
     let value = copy(alloc, value)?;
-    Ok(Box::new(alloc, value)?)
+    boxed(alloc, value)
 }
 
 // The same data again.
@@ -285,7 +315,7 @@ fn copy_items<'a>(alloc: Global, items: &[Datum<'a>]) -> Result<Vec<Datum<'a>>, 
 {
     let mut copies = Vec::with_capacity(alloc, items.len())?;
     for item in items {
-        copies.push(copy(alloc, item)?)?;
+        push(&mut copies, copy(alloc, item)?)?;
     }
     Ok(copies)
 }
@@ -298,7 +328,7 @@ fn copy_entries<'a>(alloc: Global, entries: &[Entry<'a>]) -> Result<Vec<Entry<'a
 {
     let mut copies = Vec::with_capacity(alloc, entries.len())?;
     for entry in entries {
-        copies.push(copy_entry(alloc, entry)?)?;
+        push(&mut copies, copy_entry(alloc, entry)?)?;
     }
     Ok(copies)
 }
@@ -327,7 +357,7 @@ fn copy_fields<'a>(alloc: Global, fields: &[Field<'a>]) -> Result<Vec<Field<'a>>
 {
     let mut copies = Vec::with_capacity(alloc, fields.len())?;
     for field in fields {
-        copies.push(copy_field(alloc, field)?)?;
+        push(&mut copies, copy_field(alloc, field)?)?;
     }
     Ok(copies)
 }
@@ -345,7 +375,6 @@ fn copy_field<'a>(alloc: Global, field: &Field<'a>) -> Result<Field<'a>, AllocEr
 
 // The same datum, with nothing borrowed in it.
 #[cycle(owned)]
-#[tactic(auto, using(crate::proofs::Views::item_rows_items, crate::proofs::Views::entry_rows_items, crate::proofs::Views::rows_items, crate::proofs::BorrowedRows::item_rows_are_borrowed, crate::proofs::BorrowedRows::entry_rows_are_borrowed, crate::proofs::BorrowedRows::rows_are_borrowed))]
 fn owned<'x>(alloc: Global, datum: Datum<'_>) -> Result<Datum<'x>, AllocError>
     ensures equal { IfOk result (λ d. view d ≡ view datum.entry) }
     ensures owned { IfOk result IsOwned }
@@ -362,10 +391,10 @@ fn owned<'x>(alloc: Global, datum: Datum<'_>) -> Result<Datum<'x>, AllocError>
         Datum::U64(number) => Ok(Datum::U64(number)),
         Datum::Double(number) => Ok(Datum::Double(number)),
         Datum::Char(character) => Ok(Datum::Char(character)),
-        Datum::Str(text) => Ok(Datum::Str(text.into_owned(alloc)?)),
-        Datum::Bytes(bytes) => Ok(Datum::Bytes(bytes.into_owned(alloc)?)),
+        Datum::Str(text) => text.into_owned(alloc).map(Datum::Str),
+        Datum::Bytes(bytes) => bytes.into_owned(alloc).map(Datum::Bytes),
         Datum::None => Ok(Datum::None),
-        Datum::Some(value) => Ok(Datum::Some(owned_box(alloc, value)?)),
+        Datum::Some(value) => owned_box(alloc, value).map(Datum::Some),
         Datum::Unit => Ok(Datum::Unit),
         Datum::UnitStruct { name } => Ok(Datum::UnitStruct {
             name: name.into_owned(alloc)?,
@@ -375,20 +404,50 @@ fn owned<'x>(alloc: Global, datum: Datum<'_>) -> Result<Datum<'x>, AllocError>
         }),
         Datum::NewtypeStruct { name, value } => owned_newtype(alloc, name, value),
         Datum::NewtypeVariant { variant, value } => owned_newtype_variant(alloc, variant, value),
-        Datum::Seq(items) => Ok(Datum::Seq(owned_items(alloc, items)?)),
-        Datum::Tuple(items) => Ok(Datum::Tuple(owned_items(alloc, items)?)),
+        Datum::Seq(items) => owned_sequence(alloc, items),
+        Datum::Tuple(items) => owned_tuple(alloc, items),
         Datum::TupleStruct { name, items } => owned_tuple_struct(alloc, name, items),
         Datum::TupleVariant { variant, items } => owned_tuple_variant(alloc, variant, items),
-        Datum::Map(entries) => Ok(Datum::Map(owned_entries(alloc, entries)?)),
+        Datum::Map(entries) => owned_map(alloc, entries),
         Datum::Struct { name, fields } => owned_struct(alloc, name, fields),
         Datum::StructVariant { variant, fields } => owned_struct_variant(alloc, variant, fields),
-        Datum::RawDocument(document) => Ok(Datum::RawDocument(document.into_owned(alloc)?)),
-        Datum::RawArray(array) => Ok(Datum::RawArray(array.into_owned(alloc)?)),
+        Datum::RawDocument(document) => document.into_owned(alloc).map(Datum::RawDocument),
+        Datum::RawArray(array) => array.into_owned(alloc).map(Datum::RawArray),
         Datum::Mode { readable, compact } => Ok(Datum::Mode {
             readable: owned_box(alloc, readable)?,
             compact: owned_box(alloc, compact)?,
         }),
     }
+}
+
+// The same sequence, with nothing borrowed in it.
+#[cycle(owned)]
+#[tactic(auto, using(crate::proofs::Views::item_rows_items, crate::proofs::BorrowedRows::item_rows_are_borrowed))]
+fn owned_sequence<'x>(alloc: Global, items: Vec<Datum<'_>>) -> Result<Datum<'x>, AllocError>
+    ensures equal { IfOk result (λ d. view d ≡ sequence (items_view items.entry.items)) }
+    ensures owned { IfOk result IsOwned }
+{
+    Ok(Datum::Seq(owned_items(alloc, items)?))
+}
+
+// The same tuple, with nothing borrowed in it.
+#[cycle(owned)]
+#[tactic(auto, using(crate::proofs::Views::item_rows_items, crate::proofs::BorrowedRows::item_rows_are_borrowed))]
+fn owned_tuple<'x>(alloc: Global, items: Vec<Datum<'_>>) -> Result<Datum<'x>, AllocError>
+    ensures equal { IfOk result (λ d. view d ≡ tuple (items_view items.entry.items)) }
+    ensures owned { IfOk result IsOwned }
+{
+    Ok(Datum::Tuple(owned_items(alloc, items)?))
+}
+
+// The same map, with nothing borrowed in it.
+#[cycle(owned)]
+#[tactic(auto, using(crate::proofs::Views::entry_rows_items, crate::proofs::BorrowedRows::entry_rows_are_borrowed))]
+fn owned_map<'x>(alloc: Global, entries: Vec<Entry<'_>>) -> Result<Datum<'x>, AllocError>
+    ensures equal { IfOk result (λ d. view d ≡ map (entries_view entries.entry.items)) }
+    ensures owned { IfOk result IsOwned }
+{
+    Ok(Datum::Map(owned_entries(alloc, entries)?))
 }
 
 // The same newtype, with nothing borrowed in it.
@@ -498,7 +557,7 @@ fn owned_box<'x>(alloc: Global, value: Box<Datum<'_>>) -> Result<Box<Datum<'x>>,
     ensures owned { IfOk result (λ b. IsOwned b.value) }
 {
     let value = owned(alloc, Box::into_inner(value))?;
-    Ok(Box::new(alloc, value)?)
+    boxed(alloc, value)
 }
 
 // The same data, with nothing borrowed in them.
@@ -509,7 +568,7 @@ fn owned_items<'x>(alloc: Global, items: Vec<Datum<'_>>) -> Result<Vec<Datum<'x>
 {
     let mut copies = Vec::with_capacity(alloc, items.len())?;
     for item in items {
-        copies.push(owned(alloc, item)?)?;
+        push(&mut copies, owned(alloc, item)?)?;
     }
     Ok(copies)
 }
@@ -522,7 +581,7 @@ fn owned_entries<'x>(alloc: Global, entries: Vec<Entry<'_>>) -> Result<Vec<Entry
 {
     let mut copies = Vec::with_capacity(alloc, entries.len())?;
     for entry in entries {
-        copies.push(owned_entry(alloc, entry)?)?;
+        push(&mut copies, owned_entry(alloc, entry)?)?;
     }
     Ok(copies)
 }
@@ -558,7 +617,7 @@ fn owned_fields<'x>(alloc: Global, fields: Vec<Field<'_>>) -> Result<Vec<Field<'
 {
     let mut copies = Vec::with_capacity(alloc, fields.len())?;
     for field in fields {
-        copies.push(owned_field(alloc, field)?)?;
+        push(&mut copies, owned_field(alloc, field)?)?;
     }
     Ok(copies)
 }

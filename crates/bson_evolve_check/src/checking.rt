@@ -14,7 +14,7 @@ use std::fmt;
 /// Whether a shape is compatible with an older one.
 #[derive(Debug, Drop)]
 pub enum Verdict {
-    /// What is written at the old shape is read at the new one.
+    /// Each sound document that is written at the old shape is read at the new one.
     Yes,
     /// It need not be: the pair of parts at this path is the first that no row of the table lets pass.
     No(Path),
@@ -48,7 +48,7 @@ impl fmt::Display for CheckError {
 
 impl Error for CheckError {}
 
-/// Whether each document that is written at the old shape is read at the new one, by the table of rows in `docs/DEFINITIONS.md`.
+/// Whether each sound document that is written at the old shape is read at the new one, by the table of rows in `docs/DEFINITIONS.md`.
 ///
 /// Two shapes are compared part by part. A field and a variant add their names to the path of their parts, an item of a tuple its index, an item of a
 /// sequence the index 0, a value of a map the key `*`; newtypes, options, marks, references and definitions add nothing. Parts of equal forms in equal

@@ -1,4 +1,4 @@
-//! Whether each document that is written at one shape is read at another.
+//! Whether each sound document that is written at one shape is read at another.
 #![tactic(auto)]
 
 mod checking;

@@ -1,4 +1,4 @@
-//! When each document that is written at one shape is read at another: the table of rows, the relation of all parts, and its laws.
+//! When each sound document that is written at one shape is read at another: the table of rows, the relation of all parts, and its laws.
 #![tactic(auto)]
 
 ghost use Rattle.std.specs.Prelude.{◌≡◌, true, IsSome, Some};
@@ -15,7 +15,7 @@ ghost use Rattle.bson_evolve_laws.specs.Compatible.{IsCompatible};
 ghost use Rattle.bson_evolve_laws.specs.First.{IsFirstFault};
 ghost use Rattle.bson_evolve_laws.specs.PlainTest.{is_plain};
 
-/// What a value of the old shape means has a view at the new one, where the two are compatible: so what is written at the old shape is read at the new one.
+/// What a value of the old shape means has a view at the new one, where the two are compatible: so each sound document that is written at the old shape is read at the new one.
 ///
 /// It does nothing.
 pub fn law_compatible()

@@ -139,7 +139,7 @@ fn prepare(alloc: Global, words: &[String]) -> Result<Answer<CheckStatus>, Alloc
     answer_to_words(alloc, words[0].as_str(), words[1].as_str())
 }
 
-/// Compares two shapes, an old one and a new one, and writes whether what is written at the old one is read at the new one: the line `yes`, or `no at` and the
+/// Compares two shapes, an old one and a new one, and writes whether each sound document that is written at the old one is read at the new one: the line `yes`, or `no at` and the
 /// path to the first pair of parts that does not pass (`check`).
 ///
 /// The words are to be the notations of two plain shapes. All memory is taken before the first write, and `out` is written before `err`. The status says how it

@@ -4,7 +4,7 @@ ghost use Rattle.bson_evolve_run.specs.Number.{number_of};
 /// How a comparison of two shapes ended.
 #[derive(Clone, Copy, Debug, PartialEq, Eq)]
 pub enum CheckStatus {
-    /// What is written at the old shape is read at the new one.
+    /// Each sound document that is written at the old shape is read at the new one.
     Yes,
     /// It need not be.
     No,

@@ -1,12 +1,10 @@
-//! Vectors, boxes and maps that grow, where nothing is said of what memory was refused for.
+//! Vectors, boxes and maps that grow, where nothing is said of what memory was refused for. Each function is generic, so that what is dropped where memory runs out is dropped by a call.
 #![tactic(auto)]
 
 ghost use Rattle.std.specs.Prelude.{◌≡◌, [], ◌∷◌, ◌++◌, IfOk, OnOk};
 ghost use Rattle.std.specs.BTreeMap.{insert_entry};
 ghost use Rattle.std.specs.String.{string_cmp};
-ghost use Rattle.bson_datum.specs.View.{view};
 
-use bson_datum::Datum;
 use std::alloc::{AllocError, Global};
 use std::collections::BTreeMap;
 
@@ -22,15 +20,29 @@ pub fn push<T: Drop>(items: &mut Vec<T>, item: T) -> Result<(), AllocError>
     Ok(())
 }
 
-/// A datum in a box.
+/// A vector of these two.
 ///
 /// # Errors
 ///
 /// Memory ran out.
-pub fn boxed<'a>(alloc: Global, datum: Datum<'a>) -> Result<Box<Datum<'a>>, AllocError>
-    ensures value { IfOk result (λ b. view b.value ≡ view datum.entry) }
+pub fn two<T: Drop>(alloc: Global, first: T, second: T) -> Result<Vec<T>, AllocError>
+    ensures items { IfOk result (λ v. v.items ≡ first ∷ second ∷ []) }
 {
-    Ok(Box::new(alloc, datum)?)
+    let mut items = Vec::with_capacity(alloc, 2)?;
+    push(&mut items, first)?;
+    push(&mut items, second)?;
+    Ok(items)
+}
+
+/// A value in a box.
+///
+/// # Errors
+///
+/// Memory ran out.
+pub fn boxed<T: Drop>(alloc: Global, value: T) -> Result<Box<T>, AllocError>
+    ensures value { IfOk result (λ b. b.value ≡ value) }
+{
+    Ok(Box::new(alloc, value)?)
 }
 
 /// Puts a value at a key; one that was there is dropped.

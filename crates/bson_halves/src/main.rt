@@ -14,10 +14,19 @@ use std::env;
 use std::io::Read;
 use std::process::ExitCode;
 
+/// Whether a step was taken; what it made is dropped.
+fn is_taken<T: Drop, E: Drop>(made: Result<T, E>) -> bool {
+    made.is_ok()
+}
+
 /// Reads bytes at a shape, and writes what was read to bytes.
 fn over_bytes(alloc: Global, shape: &Shape, bytes: &[u8]) -> bool {
     match from_slice_at(alloc, shape, bytes) {
-        Ok(value) => to_vec_at(alloc, &value).is_ok(),
+        Ok(value) => {
+            let written = to_vec_at(alloc, &value);
+            drop(value);
+            is_taken(written)
+        }
         Err(_) => false,
     }
 }
@@ -30,7 +39,7 @@ fn document(alloc: Global, bytes: &[u8]) -> Option<Document> {
 /// Reads a document in memory at a shape.
 fn read_tree(alloc: Global, shape: &Shape, bytes: &[u8]) -> bool {
     match document(alloc, bytes) {
-        Some(document) => from_document_at(alloc, shape, document).is_ok(),
+        Some(document) => is_taken(from_document_at(alloc, shape, document)),
         None => false,
     }
 }
@@ -38,7 +47,11 @@ fn read_tree(alloc: Global, shape: &Shape, bytes: &[u8]) -> bool {
 /// Reads a document in memory at a shape, and writes what was read as one.
 fn over_tree(alloc: Global, shape: &Shape, document: Document) -> bool {
     match from_document_at(alloc, shape, document) {
-        Ok(value) => to_document_at(alloc, &value).is_ok(),
+        Ok(value) => {
+            let written = to_document_at(alloc, &value);
+            drop(value);
+            is_taken(written)
+        }
         Err(_) => false,
     }
 }
@@ -54,7 +67,7 @@ fn over_trees(alloc: Global, shape: &Shape, bytes: &[u8]) -> bool {
 /// Takes the step of this name and all that come before it; returns whether none was refused. Any other word is no step.
 fn run(alloc: Global, step: &str, shape: &Shape, bytes: &[u8]) -> bool {
     match step {
-        "read" => from_slice_at(alloc, shape, bytes).is_ok(),
+        "read" => is_taken(from_slice_at(alloc, shape, bytes)),
         "write" => over_bytes(alloc, shape, bytes),
         "document" => document(alloc, bytes).is_some(),
         "read-tree" => read_tree(alloc, shape, bytes),

@@ -4,9 +4,10 @@ ghost use Rattle.bson_datum.specs.View.{view};
 ghost use Rattle.bson_values.specs.Value.{readable_newtype};
 
 use bson_datum::Datum;
+use bson_growing::boxed;
 use bson_shape::{Shape, ShapeError};
 use bson_traits::{
-    Deserialize, NeverNull, RoundTrip, Serialize, lossy_shape, not_fitting, readable_shape,
+    Deserialize, NeverNull, RoundTrip, Serialize, lossy_shape, not_fitting, readable_shape, refuse,
 };
 use bson_values::{Text, de, ser};
 use std::alloc::{AllocError, Global};
@@ -47,8 +48,9 @@ impl<'de, T: Deserialize<'de>> Deserialize<'de> for HumanReadable<T> {
     }
 
     fn from_datum(alloc: Global, datum: Datum<'de>) -> de::Result<HumanReadable<T>> {
-        let Datum::NewtypeStruct { name, value } = datum else {
-            return Err(not_fitting());
+        let (name, value) = match datum {
+            Datum::NewtypeStruct { name, value } => (name, value),
+            other => return Err(refuse(other)),
         };
         if name.as_str() != "$__bson_private_human_readable" {
             return Err(not_fitting());
@@ -109,6 +111,6 @@ fn readable<'a>(alloc: Global, value: Datum<'a>) -> Result<Datum<'a>, AllocError
 {
     Ok(Datum::NewtypeStruct {
         name: Text::Borrowed("$__bson_private_human_readable"),
-        value: Box::new(alloc, value)?,
+        value: boxed(alloc, value)?,
     })
 }

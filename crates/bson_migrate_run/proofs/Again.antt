@@ -20,7 +20,7 @@ use Rattle.bson_shape.specs.Form.{Form}
 use Rattle.bson_shape.specs.Makers.{IsShape}
 use Rattle.bson_laws.specs.Settled.{IsSettled}
 use Rattle.bson_tree_recast.specs.Recast.{Recast, writes, unread, unwritten, recast_of}
-use Rattle.bson_recast_run.proofs.Again.{recast_again, recast_framed}
+use Rattle.bson_recasting.proofs.Again.{recast_again, recast_framed}
 use Rattle.bson_migrate_run.specs.declared.migrating.Migration.{Migration}
 use Rattle.bson_migrate_run.specs.declared.migrating.MigrateError.{MigrateError}
 use Rattle.bson_migrate_run.specs.Migrating.{migrated, bytes_of, outputs, listed, not_recast, migration_by, migration_of, IsMigration}

@@ -9,7 +9,7 @@ use Rattle.bson_values.specs.Refusal.{ReadFault, Failure}
 use Rattle.bson_shape.specs.Form.{Form}
 use Rattle.bson_tree_recast.specs.declared.error.RecastError.{RecastError}
 use Rattle.bson_tree_recast.specs.declared.error.RecastError.TheVariants.{Read, Write, NoMemory}
-use Rattle.bson_recast_run.specs.PrintedLines.{read_refused_line}
+use Rattle.bson_recasting.specs.RefusedLines.{read_refused_line}
 use Rattle.bson_tree_recast.specs.Printed.{recast_error_text, read_refused, write_refused}
 use Rattle.bson_tree_recast.specs.Recast.{Recast, writes, unread, unwritten, IsRefusal}
 use Rattle.bson_program.specs.ShapeWord.{newline}

@@ -3,7 +3,7 @@ use Rattle.std.specs.Prelude.{◌≡◌, ℕ, List, [], ◌∷◌, ◌++◌, fal
 use Rattle.std.specs.Fmt.{decimal}
 use Rattle.bson_kinds.specs.Text.{Utf8}
 use Rattle.bson_values.specs.Refusal.{WriteFault, Failure}
-use Rattle.bson_recast_run.specs.PrintedLines.{read_refused_line, write_refused_line}
+use Rattle.bson_recasting.specs.RefusedLines.{read_refused_line, write_refused_line}
 use Rattle.bson_tree_recast.specs.Printed.{recast_error_text}
 use Rattle.bson_program.specs.OneShape.{Usage}
 use Rattle.bson_program.specs.ShapeWord.{newline}

@@ -7,7 +7,7 @@ ghost use Rattle.bson_migrate_run.specs.Step.{IsOneMigrated};
 
 use bson_io::Out;
 use bson_rawdoc::RawDocuments;
-use bson_recast_run::{RecastError, recast_to_buf};
+use bson_recasting::{RecastError, recast_to_buf};
 use bson_shape::Shape;
 use std::alloc::{AllocError, Global};
 use std::error::Error;

@@ -17,6 +17,7 @@ ghost use Rattle.bson_moved.specs.Simple as simple;
 use crate::numbers::{is_null, number};
 use bson_base::{Bson, Document};
 use bson_datum::{Datum, Field};
+use bson_growing::{boxed, push};
 use bson_shape::{FieldShape, Form, Leaf, Shape};
 use bson_values::Text;
 use std::alloc::{AllocError, Global};
@@ -81,7 +82,9 @@ fn take_number<'x>(leaf: Leaf, value: Bson) -> Datum<'x>
     ensures value { number_view (leaf_kind leaf) (tree_of value) ≡ Some (view result) }
     ensures owned { IsOwned result }
 {
-    match number(leaf, &value) {
+    let number = number(leaf, &value);
+    drop(value);
+    match number {
         Some(datum) => datum,
         None => unreachable!(),
     }
@@ -96,10 +99,11 @@ fn take_option<'x>(alloc: Global, inner: &Shape, value: Bson) -> Result<Datum<'x
     ensures owned { IfOk result IsOwned }
 {
     if is_null(&value) {
+        drop(value);
         return Ok(Datum::None);
     }
     let value = take(alloc, inner, value)?;
-    Ok(Datum::Some(Box::new(alloc, value)?))
+    Ok(Datum::Some(boxed(alloc, value)?))
 }
 
 // The values of an array.
@@ -116,7 +120,7 @@ fn take_items<'x>(
 {
     let mut items = Vec::with_capacity(alloc, values.len())?;
     for value in values {
-        items.push(take(alloc, item, value)?)?;
+        push(&mut items, take(alloc, item, value)?)?;
     }
     Ok(items)
 }
@@ -157,7 +161,7 @@ fn take_fields<'x>(
     let mut left = document;
     let mut taken = Vec::with_capacity(alloc, fields.len())?;
     for field in fields {
-        taken.push(take_field(alloc, field, &mut left)?)?;
+        push(&mut taken, take_field(alloc, field, &mut left)?)?;
     }
     Ok(taken)
 }

@@ -3,7 +3,7 @@ use bson_datum::Datum;
 use bson_de_raw::from_slice_utf8_lossy_at;
 use bson_io::{Out, Steps, Tally};
 use bson_lines::Lines;
-use bson_recast_run::{recast, recast_by_tree, recast_to_buf, recast_utf8_lossy};
+use bson_recasting::{recast, recast_by_tree, recast_to_buf, recast_utf8_lossy};
 use bson_ser_stream::to_vec_counted;
 use bson_shape::Shape;
 use std::alloc::Global;
@@ -26,6 +26,7 @@ fn add_mended(lines: &mut Lines, alloc: Global, shape: &Shape) {
         Ok(value) => {
             lines.debug("from_slice_utf8_lossy_at", &value);
             add_counted(lines, alloc, &value);
+            drop(value);
         }
         Err(error) => lines.text("not read", &error),
     }

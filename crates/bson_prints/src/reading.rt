@@ -1,10 +1,12 @@
 // What is read of a document at a shape, its copies, and why it is refused: as `Debug` prints them.
 use bson_datum::Datum;
 use bson_de_raw::from_slice_at;
+use bson_growing::boxed;
 use bson_lines::Lines;
-use bson_recast_run::{RecastError, recast};
+use bson_recasting::{RecastError, recast};
 use bson_shape::Shape;
 use std::alloc::{AllocError, Global};
+use std::fmt::Debug;
 
 /// The shape of a value of each form that holds others or has memory of its own.
 const SHAPE: &str =
@@ -29,24 +31,25 @@ fn owned<'x>(alloc: Global, datum: &Datum<'_>) -> Result<Datum<'x>, AllocError> 
     datum.try_clone(alloc)?.into_owned(alloc)
 }
 
+/// Adds what a call gives, and drops it.
+fn add_given<T: Debug + Drop>(lines: &mut Lines, name: &str, given: T) {
+    lines.debug(name, &given);
+}
+
 /// Adds a datum, its copy and its owned copy.
-fn add_copies(lines: &mut Lines, alloc: Global, datum: &Datum<'_>) {
-    lines.debug("read", datum);
-    lines.debug("copy", &datum.try_clone(alloc));
-    lines.debug("owned", &owned(alloc, datum));
+fn add_copies(lines: &mut Lines, alloc: Global, datum: Datum<'_>) {
+    lines.debug("read", &datum);
+    add_given(lines, "copy", datum.try_clone(alloc));
+    add_given(lines, "owned", owned(alloc, &datum));
+    drop(datum);
 }
 
 /// Adds what a document is read as at a shape, and its copies.
 fn add_read(lines: &mut Lines, alloc: Global, shape: &Shape, bytes: &[u8]) {
     match from_slice_at(alloc, shape, bytes) {
-        Ok(datum) => add_copies(lines, alloc, &datum),
+        Ok(datum) => add_copies(lines, alloc, datum),
         Err(error) => lines.text("not read", &error),
     }
-}
-
-/// A value in memory of its own.
-fn boxed<'x>(alloc: Global, value: Datum<'x>) -> Result<Box<Datum<'x>>, AllocError> {
-    Ok(Box::new(alloc, value)?)
 }
 
 /// A value with two forms.
@@ -59,7 +62,7 @@ fn mode<'x>(alloc: Global) -> Result<Datum<'x>, AllocError> {
 /// Adds a value with two forms, and its copies.
 fn add_mode(lines: &mut Lines, alloc: Global) {
     match mode(alloc) {
-        Ok(datum) => add_copies(lines, alloc, &datum),
+        Ok(datum) => add_copies(lines, alloc, datum),
         Err(error) => lines.text("no value", &error),
     }
 }

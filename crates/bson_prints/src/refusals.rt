@@ -28,7 +28,10 @@ fn padded(alloc: Global, front: &[u8], len: usize) -> Result<Vec<u8>, AllocError
 /// Adds what a document that is read at a shape is written as, or why it is refused.
 fn add_read(lines: &mut Lines, alloc: Global, shape: &Shape, bytes: &[u8]) {
     match from_slice_at(alloc, shape, bytes) {
-        Ok(datum) => add_written(lines, alloc, &datum),
+        Ok(datum) => {
+            add_written(lines, alloc, &datum);
+            drop(datum);
+        }
         Err(error) => lines.text("not read", &error),
     }
 }
@@ -66,7 +69,10 @@ fn add_array(lines: &mut Lines, alloc: Global, document: &Datum<'_>) {
 /// Adds the refusal of the array of a document that is read at a shape.
 fn add_raw_array(lines: &mut Lines, alloc: Global, shape: &Shape) {
     match from_slice_at(alloc, shape, ARRAY) {
-        Ok(document) => add_array(lines, alloc, &document),
+        Ok(document) => {
+            add_array(lines, alloc, &document);
+            drop(document);
+        }
         Err(error) => lines.text("not read", &error),
     }
 }

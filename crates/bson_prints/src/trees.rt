@@ -23,7 +23,10 @@ fn tree(alloc: Global) -> Result<Bson, Error> {
 /// Adds the bytes of what a tree is read as at a shape.
 fn add_read(lines: &mut Lines, alloc: Global, shape: &Shape, tree: &Bson) {
     match read_value(alloc, shape, &Met::of_tree(MAX_NESTING_LEVEL, tree)) {
-        Ok(datum) => add_written(lines, alloc, &datum),
+        Ok(datum) => {
+            add_written(lines, alloc, &datum);
+            drop(datum);
+        }
         Err(_) => lines.line("not read"),
     }
 }
@@ -46,7 +49,10 @@ fn add_at_each(lines: &mut Lines, alloc: Global, tree: &Bson) {
 /// A tree that is read at shapes.
 pub fn add_trees(lines: &mut Lines, alloc: Global) {
     match tree(alloc) {
-        Ok(tree) => add_at_each(lines, alloc, &tree),
+        Ok(tree) => {
+            add_at_each(lines, alloc, &tree);
+            drop(tree);
+        }
         Err(fault) => lines.debug("no tree", &fault),
     }
 }

@@ -1,85 +1,35 @@
--- What was recast is recast again as the same bytes.
-use Rattle.std.proofs.Common.{◌≡◌, ◌≤◌, [], length, Bool, true, false, Result, Ok, Err, Option, Some, None, refl, ap, sym, subst, ◌∙◌, arith, inl, inr}
-use Rattle.std.specs.Prelude.{◌⊎◌, ℕ, IfOk}
-use Rattle.std.specs.Global.{Vec}
+-- What a run wrote is written again by a run with the same words.
+use Rattle.std.proofs.Common.{◌≡◌, ◌≤◌, [], length, Bool, true, false, Ok, Option, Some, None, refl, ap, sym, subst, ◌∙◌, arith, inl, inr}
+use Rattle.std.specs.Prelude.{◌⊎◌}
 use Rattle.std.specs.Io.KnownBytes.{Appends}
-use Rattle.bson_kinds.specs.Outcome.{result_map}
-use Rattle.bson_base.specs.Sound.{max_bytes, max_levels}
+use Rattle.bson_base.specs.Sound.{max_bytes}
 use Rattle.bson_kinds.specs.Text.{Bytes, AreBytes}
-use Rattle.bson_base.specs.Tree.{Tree, enc}
-use Rattle.bson_kinds.specs.declared.element_type.ElementType.TheVariants.{EmbeddedDocument}
 use Rattle.bson_kinds.proofs.Outcomes.{ok_is}
-use Rattle.bson_rawdoc.specs.Envelope.{envelope}
-use Rattle.bson_rawdoc.specs.Node.{node_in}
-use Rattle.bson_rawdoc.specs.declared.raw.Error.{Error}
 use Rattle.bson_shape.specs.Form.{Form}
 use Rattle.bson_shape.specs.Makers.{IsShape}
-use Rattle.bson_values.specs.Cause.{raw}
-use Rattle.bson_values.specs.Marked.{contents}
-use Rattle.bson_values.specs.Refusal.{bare, unreadable}
-use Rattle.bson_values.specs.Value.{Value}
-use Rattle.bson_laws.specs.CompactReads.{reads}
-use Rattle.bson_laws.specs.Reads.{answered, reads_document}
+use Rattle.bson_laws.specs.Reads.{reads_document}
 use Rattle.bson_laws.specs.Settled.{IsSettled}
-use Rattle.bson_laws.specs.Spell.{spell_document}
-use Rattle.bson_laws.proofs.AtShapes.{document_again}
-use Rattle.bson_laws.proofs.ReadAgain.{document_size}
 use Rattle.bson_program.proofs.Inputs.{whole}
 use Rattle.bson_program.specs.Command.{IsAskedFor}
 use Rattle.bson_program.specs.Ends.{ReadAs}
 use Rattle.bson_program.specs.Program.{IsExpected, IsAnswered}
 use Rattle.bson_program.specs.Run.{Run, AllQuiet, AreKept, AreWritten, Told, CutShort}
 use Rattle.bson_de_raw.specs.ReadsLossy.{reads_lossy}
-use Rattle.bson_de_raw.proofs.Lossy.{lossy_document_again}
 use Rattle.bson_recast_run.specs.declared.options.Job.{Job}
 use Rattle.bson_recast_run.specs.declared.options.Request.{Request}
 use Rattle.bson_recast_run.specs.declared.options.Request.TheVariants as requests
 use Rattle.bson_recast_run.specs.declared.options.Way.{Way}
 use Rattle.bson_recast_run.specs.declared.options.Way.TheVariants as ways
-use Rattle.bson_tree_recast.proofs.Written.{Reader, written_as, recast_as}
-use Rattle.bson_tree_recast.specs.declared.error.RecastError.{RecastError}
 use Rattle.bson_recast_run.specs.declared.status.Status.{Status}
 use Rattle.bson_recast_run.specs.declared.status.Status.TheVariants as statuses
 use Rattle.bson_recast_run.specs.Digits.{document_in, shown}
-use Rattle.bson_recast_run.specs.Options.{recast_command, request, AskForDigits, IsByValue}
-use Rattle.bson_tree_recast.specs.Recast.{writes, written, recast_read, recast_of, IsRecast}
-use Rattle.bson_recast_run.specs.Recasting.{lossy_recast_of, recast_with}
+use Rattle.bson_recast_run.specs.Options.{recast_command, request, AskForDigits, IsByValue, recast_with}
+use Rattle.bson_tree_recast.specs.Recast.{writes}
 use Rattle.bson_recast_run.specs.Rows.{AnswersDocument, AnswersRequest, recast_program, WritesExactly}
 use Rattle.bson_recast_run.proofs.AskedFor.{options_asked}
 use Rattle.bson_recast_run.proofs.DigitsBack.{document_are, shown_holds}
 use Rattle.bson_recast_run.proofs.Headline.{writes_job}
-
--- what is written has at most as many bytes as a document may
-written_fits : (read : Reader) (bytes out : Bytes) → recast_read (read bytes) ≡ writes out → length out ≤ max_bytes
-written_fits read bytes out e =
-    let w = written_as read bytes out (read bytes) refl e in
-    omega (arith, w.fits, document_size w.value w.tree w.spelled, ap length w.is)
-
--- what is read and spelled as a document is read of the document again, as what is spelled as it
-abbrev ReadsAgain : Reader → Type 0
-ReadsAgain read = (bytes : Bytes) (d : Value) (t : Tree) → AreBytes bytes → read bytes ≡ Ok d → spell_document d ≡ Ok t → length (enc t) ≤ max_bytes
-    → (v : Value) × (read (enc t) ≡ Ok v) × (spell_document v ≡ Ok t)
-
-written_again : (read : Reader) → ReadsAgain read → (bytes out : Bytes) → AreBytes bytes → recast_read (read bytes) ≡ writes out → recast_read (read out) ≡ writes out
-written_again read reads bytes out are e =
-    let w = written_as read bytes out (read bytes) refl e in
-    let fits : length (enc w.tree) ≤ max_bytes = omega (arith, w.fits, document_size w.value w.tree w.spelled) in
-    let next = reads bytes w.value w.tree are w.is_read w.spelled fits in
-    subst (λ b. recast_read (read b) ≡ writes b) (sym w.is) (recast_as read (enc w.tree) next.0 w.tree next.1 next.2 fits)
-
-pub recast_again : (s : Form) (bytes out : Bytes) → IsShape s → IsSettled s → AreBytes bytes → recast_of s bytes ≡ writes out → recast_of s out ≡ writes out
-recast_again s bytes out shape expected are e = written_again (reads_document s) (λ b d t h. document_again s b d t shape expected h) bytes out are e
-
-lossy_again : (s : Form) (bytes out : Bytes) → IsShape s → IsSettled s → AreBytes bytes → lossy_recast_of s bytes ≡ writes out → lossy_recast_of s out ≡ writes out
-lossy_again s bytes out shape expected are e = written_again (reads_lossy s) (λ b d t h. lossy_document_again s b d t shape expected h) bytes out are e
-
-pub given_back : (s : Form) (bytes : Bytes) → IsShape s → IsSettled s → AreBytes bytes → (r : Result (Vec ℕ) RecastError) → IsRecast (recast_of s bytes) r → IfOk r (λ v. recast_of s v.items ≡ writes v.items)
-given_back s bytes shape expected are (Ok v) h = recast_again s bytes v.items shape expected are h
-given_back s bytes shape expected are (Err e) h = tt
-
-pub given_lossy_back : (s : Form) (bytes : Bytes) → IsShape s → IsSettled s → AreBytes bytes → (r : Result (Vec ℕ) RecastError) → IsRecast (lossy_recast_of s bytes) r → IfOk r (λ v. lossy_recast_of s v.items ≡ writes v.items)
-given_lossy_back s bytes shape expected are (Ok v) h = lossy_again s bytes v.items shape expected are h
-given_lossy_back s bytes shape expected are (Err e) h = tt
+use Rattle.bson_recasting.proofs.Again.{written_fits, recast_again, lossy_again}
 
 -- the same in each way that is by value
 with_again : (way : Way) (s : Form) (bytes out : Bytes) → IsByValue way → IsShape s → IsSettled s → AreBytes bytes → recast_with way s bytes ≡ writes out → recast_with way s out ≡ writes out
@@ -168,17 +118,3 @@ run_again first second job given out asked value expected answers done are told 
     let next : recast_with o.way s d.written ≡ writes d.written = with_again o.way s d.document d.written by h.asked.asks.made settled (document_are o.hex given d.document are held) d.answer in
     subst (WritesExactly second) (sym shows)
     (writes_job h.job out d.written d.written second again small (ap (document_in o.hex) shows ∙ shown_holds o.hex d.written d.are_bytes) next (ap request words ∙ h.asked.is) input quiet)
-
--- ---- the frame
-
--- bytes that are read are framed as a document
-read_framed : (s : Form) (bytes : Bytes) (d : Value) (r : Result Bytes Error) → envelope bytes ≡ r
-    → result_map contents (elim r [ Ok b ↦ answered (reads s (node_in max_levels EmbeddedDocument b)) | Err f ↦ Err (bare (unreadable (raw f))) ]) ≡ Ok d → (b : Bytes) × (envelope bytes ≡ Ok b)
-read_framed s bytes d (Ok b) is h = (b, is)
-read_framed s bytes d (Err f) is h = absurd cc
-
--- bytes that are recast are framed as a document
-pub recast_framed : (s : Form) (bytes out : Bytes) → recast_of s bytes ≡ writes out → (b : Bytes) × (envelope bytes ≡ Ok b)
-recast_framed s bytes out e =
-    let w = written_as (reads_document s) bytes out (reads_document s bytes) refl e in
-    read_framed s bytes w.value (envelope bytes) refl w.is_read

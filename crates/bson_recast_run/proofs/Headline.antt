@@ -24,12 +24,11 @@ use Rattle.bson_program.proofs.Answered.{quiet_read}
 use Rattle.bson_program.specs.Program.{IsAnswered}
 use Rattle.bson_program.specs.Run.{Run, AllQuiet, AreKept, Told}
 use Rattle.bson_recast_run.specs.Digits.{document_in, shown}
-use Rattle.bson_recast_run.specs.Options.{no_options, job_of, request}
+use Rattle.bson_recast_run.specs.Options.{no_options, job_of, request, recast_with}
 use Rattle.bson_tree_recast.specs.Recast.{writes}
-use Rattle.bson_recast_run.specs.Recasting.{recast_with}
 use Rattle.bson_recast_run.specs.Rows.{AnswersRecast, AnswersDocument, AnswersJob, recast_input, recast_program, WritesExactly}
 use Rattle.bson_recast_run.proofs.AskedFor.{asked_alone}
-use Rattle.bson_recast_run.proofs.Migrates.{recasts_it}
+use Rattle.bson_recasting.proofs.Migrates.{recasts_it}
 
 -- ---- the words
 

@@ -22,10 +22,10 @@ use Rattle.bson_laws.specs.Means.{means, means_items}
 use Rattle.bson_laws.specs.Plain.{IsPlain}
 use Rattle.bson_laws.specs.Recursive.{view}
 use Rattle.bson_laws.specs.Views.{views, views_items}
-use Rattle.bson_made.specs.Made.{row_name, row_fields, rows_from, rows_document, made}
-use Rattle.bson_made.proofs.Sound.{kept_fields, made_sound, kept_sound}
+use Rattle.bson_recast_run.specs.Made.{row_name, row_fields, rows_from, rows_document, made}
+use Rattle.bson_recast_run.proofs.Sound.{kept_fields, made_sound, kept_sound}
 use Rattle.bson_recast_run.specs.Making.{max_rows, rows_shape, made_line, IsMadeLine}
-use Rattle.bson_recast_run.specs.Recasting.{GivesBytes}
+use Rattle.bson_recasting.specs.Recasting.{GivesBytes}
 use Rattle.bson_tree_recast.specs.Recast.{writes, recast_of}
 use Rattle.bson_tree_recast.specs.declared.error.RecastError.{RecastError}
 

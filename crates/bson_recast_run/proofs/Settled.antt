@@ -12,7 +12,7 @@ use Rattle.bson_recast_run.specs.declared.status.Status.{Status}
 use Rattle.bson_recast_run.specs.declared.status.Status.TheVariants as statuses
 use Rattle.bson_recast_run.specs.Digits.{document_in}
 use Rattle.bson_tree_recast.specs.Recast.{Recast, writes, unread, unwritten, Unwritten}
-use Rattle.bson_recast_run.specs.Recasting.{recast_with}
+use Rattle.bson_recast_run.specs.Options.{recast_with}
 use Rattle.bson_recast_run.specs.Rows.{AnswersRecast, AnswersNotDigits, AnswersDocument, AnswersJob, AnswersRows, AnswersRequest, recast_status, document_status, request_status, recast_input, recast_program}
 
 status_unwritten : (r : Recast) (f : Failure WriteFault) → Unwritten r f → recast_status r ≡ statuses.WriteRefused

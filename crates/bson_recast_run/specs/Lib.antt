@@ -1,5 +1,6 @@
 pub mod Number
-pub mod Recasting
+pub mod Made
+pub mod Pieces
 pub mod PrintedLines
 pub mod Making
 pub mod Options

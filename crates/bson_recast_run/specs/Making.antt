@@ -5,7 +5,7 @@ use Rattle.std.specs.Str.{bytes_eq}
 use Rattle.std.specs.Str.Parse.{digits_value}
 use Rattle.bson_kinds.specs.Text.{Bytes, Utf8}
 use Rattle.bson_base.specs.Tree.{enc}
-use Rattle.bson_made.specs.Made.{made}
+use Rattle.bson_recast_run.specs.Made.{made}
 use Rattle.bson_shape.specs.Form.{Form, leaf, sequence, structure, dropped, no_fields, field}
 use Rattle.bson_shape.specs.declared.leaf.Leaf.TheVariants.{U32, String}
 use Rattle.bson_program.specs.ShapeWord.{newline}

@@ -2,13 +2,16 @@
 use Rattle.std.specs.Prelude.{◌≡◌, ◌⊎◌, ℕ, List, [], ◌∷◌, ◌++◌, Bool, true, false, not, ◌&&◌, IsTrue, if◌then◌else◌, Option, Some, None, Result, Ok, codes}
 use Rattle.std.specs.Str.{bytes_eq}
 use Rattle.bson_kinds.specs.Outcome.{result_map}
-use Rattle.bson_kinds.specs.Text.{Utf8}
+use Rattle.bson_kinds.specs.Text.{Bytes, Utf8}
 use Rattle.bson_shape.specs.Form.{Form}
 use Rattle.bson_shape.specs.Makers.{IsShape}
 use Rattle.bson_shape.specs.Notation.{text}
 use Rattle.bson_program.specs.Command.{Command}
 use Rattle.bson_program.specs.OneShape as one_shape
 use Rattle.bson_program.specs.ShapeWord.{RefusesWord}
+use Rattle.bson_tree_recast.specs.ByTree.{tree_recast_of}
+use Rattle.bson_tree_recast.specs.Recast.{Recast, recast_of}
+use Rattle.bson_recasting.specs.Recasting.{lossy_recast_of}
 use Rattle.bson_recast_run.specs.PrintedLines.{recast_usage}
 use Rattle.bson_recast_run.specs.Making.{AskForRows, rows_asked}
 use Rattle.bson_recast_run.specs.declared.options.Job.{Job}
@@ -126,6 +129,14 @@ request words = request_of (rows_asked words) (job_request words)
 -- the command line of the recast
 abbrev pub recast_command : Command Request
 recast_command = record { AsksFor = AsksFor; Refuses = RefusesWords; request = request }
+
+-- ---- what comes of a way
+
+-- the recast in each way
+abbrev pub recast_with : Way → Form → Bytes → Recast
+recast_with Plain s bytes = recast_of s bytes
+recast_with Lossy s bytes = lossy_recast_of s bytes
+recast_with Tree s bytes = tree_recast_of s bytes
 
 -- A document's value is read from its bytes, and written: not by way of trees.
 abbrev pub IsByValue : Way → Type 0

@@ -13,10 +13,10 @@ use Rattle.bson_recast_run.specs.declared.options.Request.TheVariants as request
 use Rattle.bson_recast_run.specs.declared.status.Status.{Status}
 use Rattle.bson_recast_run.specs.declared.status.Status.TheVariants as statuses
 use Rattle.bson_recast_run.specs.Digits.{document_in, shown}
-use Rattle.bson_recast_run.specs.PrintedLines.{read_refused_line, write_refused_line, too_long_line, not_digits_line}
+use Rattle.bson_recast_run.specs.PrintedLines.{too_long_line, not_digits_line}
+use Rattle.bson_recasting.specs.RefusedLines.{read_refused_line, write_refused_line}
 use Rattle.bson_recast_run.specs.Making.{IsMadeLine}
-use Rattle.bson_recast_run.specs.Options.{recast_command}
-use Rattle.bson_recast_run.specs.Recasting.{recast_with}
+use Rattle.bson_recast_run.specs.Options.{recast_command, recast_with}
 use Rattle.bson_tree_recast.specs.Recast.{Recast, writes, unread, unwritten, Unwritten}
 
 -- The recast writes a document, which is shown in its bytes or in digits, and nothing is told.

@@ -1,14 +1,12 @@
-//! A document read at a shape and written anew, and the run of the program that does it.
+//! The run of the program that reads a document at a shape and writes it anew.
 #![tactic(auto)]
 
 mod digits;
+mod made_rows;
 mod making;
 mod options;
-mod recasting;
 mod running;
 mod status;
 
-pub use bson_tree_recast::{RecastError, recast_by_tree};
-pub use recasting::{recast, recast_to_buf, recast_utf8_lossy};
 pub use running::{law_run_again, run};
 pub use status::Status;

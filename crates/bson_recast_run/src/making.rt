@@ -2,12 +2,12 @@
 ghost use Rattle.std.specs.Prelude.{◌≡◌, ◌≤◌, length, sum, string_bytes, IfOk};
 ghost use Rattle.bson_base.specs.Sound.{max_bytes};
 ghost use Rattle.bson_base.specs.Tree.{enc};
-ghost use Rattle.bson_made.specs.Made.{made};
+ghost use Rattle.bson_recast_run.specs.Made.{made};
 ghost use Rattle.bson_recast_run.specs.Making.{max_rows, rows_shape, made_line, IsMadeLine};
 ghost use Rattle.bson_tree_recast.specs.Recast.{writes, recast_of};
 
-use crate::recasting::recast;
-use bson_made::made;
+use crate::made_rows::made;
+use bson_recasting::recast;
 use bson_shape::{ParseError, Shape};
 use bson_tree_recast::RecastError;
 use std::alloc::{AllocError, Global};

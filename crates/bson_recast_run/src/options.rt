@@ -1,11 +1,10 @@
 // The options of the command line, and what it asks for.
 ghost use Rattle.std.specs.Prelude.{◌≡◌, map, string_bytes};
 ghost use Rattle.bson_recast_run.specs.Making.{rows_in, rows_asked};
-ghost use Rattle.bson_recast_run.specs.Options.{is_plain, no_options, options_of, with_option};
-ghost use Rattle.bson_recast_run.specs.Recasting.{recast_with};
+ghost use Rattle.bson_recast_run.specs.Options.{is_plain, no_options, options_of, with_option, recast_with};
 ghost use Rattle.bson_tree_recast.specs.Recast.{IsRecast};
 
-use crate::recasting::{recast, recast_utf8_lossy};
+use bson_recasting::{recast, recast_utf8_lossy};
 use bson_shape::Shape;
 use bson_tree_recast::{RecastError, recast_by_tree};
 use std::alloc::Global;

@@ -20,8 +20,7 @@ ghost use Rattle.bson_program.specs.Program.{IsExpected, IsAnswered};
 ghost use Rattle.bson_program.specs.Run.{Run, run_of, AllQuiet};
 ghost use Rattle.bson_recast_run.specs.PrintedLines.{recast_usage};
 ghost use Rattle.bson_recast_run.specs.Making.{max_rows};
-ghost use Rattle.bson_recast_run.specs.Options.{AskForDigits, IsByValue, job_command, request};
-ghost use Rattle.bson_recast_run.specs.Recasting.{recast_with};
+ghost use Rattle.bson_recast_run.specs.Options.{AskForDigits, IsByValue, job_command, request, recast_with};
 ghost use Rattle.bson_recast_run.specs.Rows.{AnswersRecast, AnswersNotDigits, AnswersJob, AnswersRows, recast_input, recast_program, WritesExactly};
 ghost use Rattle.bson_recast_run.specs.declared.options.Job.{Job};
 ghost use Rattle.bson_recast_run.specs.declared.options.Request.TheVariants as requests;
@@ -195,9 +194,10 @@ pub fn law_run_again()
 /// hexadecimal digits, in either case, between which spaces, tabs, carriage returns and line feeds may stand, and the output is lower-case digits and one
 /// line feed.
 ///
-/// Or the words are `--make` and a number from 0 to 100000 in decimal digits, without a zero in front. Then the input is not touched: a document of so many rows is made, as
-/// `bson_made::made` does, and recast at `{rows:[{n:u32,name:string}]}`. The line on `out` has the number of rows, the lengths of the document and of its recast in bytes, and the sum of the
-/// bytes of the recast. The status is `Done`, `SinkFault` or `NoMemory`.
+/// Or the words are `--make` and a number from 0 to 100000 in decimal digits, without a zero in front. Then the input is not touched: a document of so many rows is
+/// made, and recast at `{rows:[{n:u32,name:string}]}`. It has one field `rows`, an array of documents: that of the number `i`, from 0, has `n`, the Int32 `i`, `name`, the String
+/// `row` with the decimal digits of `i` behind it, and `ok`, which is true. The line on `out` has the number of rows, the lengths of the document and of its recast in bytes, and
+/// the sum of the bytes of the recast. The status is `Done`, `SinkFault` or `NoMemory`.
 ///
 /// All memory is taken before the first write. The status says how it ended:
 ///

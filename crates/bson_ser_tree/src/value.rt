@@ -257,7 +257,7 @@ fn entry_trees(
     for entry in entries {
         let key = key_text(alloc, &entry.key, readable, levels)?;
         let tree = tree_under(alloc, &key, &entry.value, readable, false, levels)?;
-        document.insert(key, tree)?;
+        drop(document.insert(key, tree)?);
     }
     Ok(document)
 }
@@ -276,8 +276,9 @@ fn field_trees(
     let mut document = Document::new(alloc);
     for field in fields {
         let name = field.name.as_str();
+        let key = String::from_str(alloc, name)?;
         let tree = tree_under(alloc, name, &field.value, readable, in_reserved, levels)?;
-        document.insert(String::from_str(alloc, name)?, tree)?;
+        drop(document.insert(key, tree)?);
     }
     Ok(document)
 }
@@ -390,6 +391,6 @@ pub(crate) fn variant(alloc: Global, name: String, tree: Bson) -> Result<Bson, A
     ensures { IfOk result (λ value. tree_of value ≡ document (pair (string_bytes name) (tree_of tree) no_pairs)) }
 {
     let mut document = Document::new(alloc);
-    document.insert(name, tree)?;
+    drop(document.insert(name, tree)?);
     Ok(Bson::Document(document))
 }

@@ -1,7 +1,6 @@
 //! What a type of one's own is written and read with: the fields of a struct, and the variants of an enum.
 #![tactic(auto)]
 
-mod fields;
 mod reading;
 mod shapes;
 mod variants;

@@ -6,7 +6,7 @@ ghost use Rattle.bson_traits.specs.Structs.{struct_fields, next_field, no_field_
 ghost use Rattle.bson_structs.specs.FieldsLeft.{before, left, IsNext};
 
 use bson_datum::{Datum, Field};
-use bson_traits::{Deserialize, not_fitting};
+use bson_traits::{Deserialize, not_fitting, refuse};
 use bson_values::de;
 use std::alloc::Global;
 
@@ -29,12 +29,9 @@ impl<'de> StructFields<'de> {
     pub fn of(name: &str, datum: Datum<'de>) -> de::Result<StructFields<'de>>
         ensures fields { Reads left result (struct_fields name.now (view datum.entry)) }
     {
-        let Datum::Struct {
-            name: found,
-            fields,
-        } = datum
-        else {
-            return Err(not_fitting());
+        let (found, fields) = match datum {
+            Datum::Struct { name, fields } => (name, fields),
+            other => return Err(refuse(other)),
         };
         if found.as_str() != name {
             return Err(not_fitting());
@@ -55,7 +52,7 @@ impl<'de> StructFields<'de> {
         };
         let Field { name: found, value } = field;
         if found.as_str() != name {
-            return Err(not_fitting());
+            return Err(refuse(value));
         }
         let value = T::from_datum(alloc, value)?;
         Ok(value)
@@ -70,10 +67,13 @@ impl<'de> StructFields<'de> {
         ensures end { Reads (λ _. tt) result (no_field_left (left self.entry)) }
     {
         let mut reversed = self.reversed;
-        let None = next_of(&mut reversed) else {
-            return Err(not_fitting());
-        };
-        Ok(())
+        match next_of(&mut reversed) {
+            None => Ok(()),
+            Some(field) => {
+                drop(field);
+                Err(not_fitting())
+            }
+        }
     }
 }
 

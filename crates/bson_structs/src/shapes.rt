@@ -5,7 +5,7 @@ ghost use Rattle.bson_shape.specs.Makers.{repeats, variants_repeat};
 ghost use Rattle.bson_shape.specs.ShapeView.{fields_of, variants_of};
 ghost use Rattle.bson_traits.specs.ShapeOf.{IsShapeOf};
 
-use crate::fields::push;
+use bson_growing::push;
 use bson_shape::{FieldShape, Shape, ShapeError, VariantContent, VariantShape};
 use std::alloc::{AllocError, Global};
 use std::marker::Model;

@@ -4,8 +4,8 @@ ghost use Rattle.bson_values.specs.Value as value;
 ghost use Rattle.bson_datum.specs.View.{view, fields_view};
 ghost use Rattle.bson_structs.specs.FieldsAdded.{with_field};
 
-use crate::fields::push;
 use bson_datum::{Datum, Field};
+use bson_growing::{boxed, push};
 use bson_values::Text;
 use std::alloc::{AllocError, Global};
 
@@ -71,6 +71,6 @@ pub fn newtype_variant<'a>(
 {
     Ok(Datum::NewtypeVariant {
         variant: Text::Borrowed(variant),
-        value: Box::new(alloc, inner)?,
+        value: boxed(alloc, inner)?,
     })
 }

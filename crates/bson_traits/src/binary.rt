@@ -38,7 +38,9 @@ impl<'de> Deserialize<'de> for Binary {
     }
 
     fn from_datum(alloc: Global, datum: Datum<'de>) -> de::Result<Binary> {
-        binary_of(alloc, &datum)
+        let value = binary_of(alloc, &datum);
+        drop(datum);
+        value
     }
 }
 

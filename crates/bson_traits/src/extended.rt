@@ -36,7 +36,9 @@ impl<'de> Deserialize<'de> for ObjectId {
     }
 
     fn from_datum(alloc: Global, datum: Datum<'de>) -> de::Result<ObjectId> {
-        id_in(alloc, &datum)
+        let value = id_in(alloc, &datum);
+        drop(datum);
+        value
     }
 }
 
@@ -91,7 +93,9 @@ impl<'de> Deserialize<'de> for DateTime {
     }
 
     fn from_datum(alloc: Global, datum: Datum<'de>) -> de::Result<DateTime> {
-        date_in(alloc, &datum)
+        let value = date_in(alloc, &datum);
+        drop(datum);
+        value
     }
 }
 
@@ -147,7 +151,9 @@ impl<'de> Deserialize<'de> for Timestamp {
     }
 
     fn from_datum(alloc: Global, datum: Datum<'de>) -> de::Result<Timestamp> {
-        stamp_of(alloc, &datum)
+        let value = stamp_of(alloc, &datum);
+        drop(datum);
+        value
     }
 }
 

@@ -16,6 +16,6 @@ mod texts;
 mod traits;
 mod trees;
 
-pub use bson_type_data::{date_datum, id_datum, not_fitting, stamp_datum};
+pub use bson_type_data::{date_datum, id_datum, not_fitting, refuse, stamp_datum};
 pub use shapes::{lossy_shape, readable_shape, shape_of};
 pub use traits::{Deserialize, NeverNull, RoundTrip, Serialize};

@@ -8,7 +8,7 @@ use crate::traits::{Deserialize, NeverNull, RoundTrip, Serialize};
 use bson_datum::{Datum, Entry};
 use bson_growing::{push, put};
 use bson_shape::{Shape, ShapeError};
-use bson_type_data::{known_text, not_fitting, string_of};
+use bson_type_data::{known_text, not_fitting, refuse, string_of};
 use bson_values::{Text, de, ser};
 use std::alloc::{AllocError, Global};
 use std::collections::BTreeMap;
@@ -58,7 +58,7 @@ impl<'de, T: Deserialize<'de> + Drop> Deserialize<'de> for BTreeMap<String, T> {
     fn from_datum(alloc: Global, datum: Datum<'de>) -> de::Result<BTreeMap<String, T>> {
         match datum {
             Datum::Map(entries) => map_of(alloc, entries),
-            _ => Err(not_fitting()),
+            other => Err(refuse(other)),
         }
     }
 }
@@ -111,7 +111,10 @@ fn key_of(alloc: Global, key: Datum<'_>) -> Result<String, AllocError>
 {
     match key {
         Datum::Str(text) => string_of(alloc, text),
-        _ => Ok(String::new(alloc)),
+        other => {
+            drop(other);
+            Ok(String::new(alloc))
+        }
     }
 }
 

@@ -35,7 +35,9 @@ impl<'de> Deserialize<'de> for i8 {
     }
 
     fn from_datum(_alloc: Global, datum: Datum<'de>) -> de::Result<i8> {
-        i8_in(&datum)
+        let value = i8_in(&datum);
+        drop(datum);
+        value
     }
 }
 
@@ -89,7 +91,9 @@ impl<'de> Deserialize<'de> for i16 {
     }
 
     fn from_datum(_alloc: Global, datum: Datum<'de>) -> de::Result<i16> {
-        i16_in(&datum)
+        let value = i16_in(&datum);
+        drop(datum);
+        value
     }
 }
 
@@ -143,7 +147,9 @@ impl<'de> Deserialize<'de> for i32 {
     }
 
     fn from_datum(_alloc: Global, datum: Datum<'de>) -> de::Result<i32> {
-        i32_in(&datum)
+        let value = i32_in(&datum);
+        drop(datum);
+        value
     }
 }
 
@@ -197,7 +203,9 @@ impl<'de> Deserialize<'de> for i64 {
     }
 
     fn from_datum(_alloc: Global, datum: Datum<'de>) -> de::Result<i64> {
-        i64_in(&datum)
+        let value = i64_in(&datum);
+        drop(datum);
+        value
     }
 }
 
@@ -251,7 +259,9 @@ impl<'de> Deserialize<'de> for u8 {
     }
 
     fn from_datum(_alloc: Global, datum: Datum<'de>) -> de::Result<u8> {
-        u8_in(&datum)
+        let value = u8_in(&datum);
+        drop(datum);
+        value
     }
 }
 
@@ -304,7 +314,9 @@ impl<'de> Deserialize<'de> for u16 {
     }
 
     fn from_datum(_alloc: Global, datum: Datum<'de>) -> de::Result<u16> {
-        u16_in(&datum)
+        let value = u16_in(&datum);
+        drop(datum);
+        value
     }
 }
 
@@ -357,7 +369,9 @@ impl<'de> Deserialize<'de> for u32 {
     }
 
     fn from_datum(_alloc: Global, datum: Datum<'de>) -> de::Result<u32> {
-        u32_in(&datum)
+        let value = u32_in(&datum);
+        drop(datum);
+        value
     }
 }
 
@@ -410,7 +424,9 @@ impl<'de> Deserialize<'de> for u64 {
     }
 
     fn from_datum(_alloc: Global, datum: Datum<'de>) -> de::Result<u64> {
-        u64_in(&datum)
+        let value = u64_in(&datum);
+        drop(datum);
+        value
     }
 }
 

@@ -3,7 +3,7 @@ use crate::traits::{Deserialize, NeverNull, RoundTrip, Serialize};
 use bson_datum::Datum;
 use bson_growing::boxed;
 use bson_shape::{Shape, ShapeError};
-use bson_type_data::not_fitting;
+use bson_type_data::refuse;
 use bson_values::{de, ser};
 use std::alloc::Global;
 
@@ -48,7 +48,7 @@ impl<'de, T: Deserialize<'de>> Deserialize<'de> for Option<T> {
                 let value = T::from_datum(alloc, Box::into_inner(inner))?;
                 Ok(Some(value))
             }
-            _ => Err(not_fitting()),
+            other => Err(refuse(other)),
         }
     }
 }

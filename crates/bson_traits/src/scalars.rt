@@ -2,7 +2,7 @@ use crate::traits::{Deserialize, NeverNull, RoundTrip, Serialize};
 use bson_base::Double;
 use bson_datum::Datum;
 use bson_shape::{Shape, ShapeError};
-use bson_type_data::{bool_in, char_in, double_in, known_eight, not_fitting};
+use bson_type_data::{bool_in, char_in, double_in, known_eight, refuse};
 use bson_values::{de, ser};
 use std::alloc::Global;
 
@@ -36,7 +36,9 @@ impl<'de> Deserialize<'de> for bool {
     }
 
     fn from_datum(_alloc: Global, datum: Datum<'de>) -> de::Result<bool> {
-        bool_in(&datum)
+        let value = bool_in(&datum);
+        drop(datum);
+        value
     }
 }
 
@@ -86,7 +88,9 @@ impl<'de> Deserialize<'de> for char {
     }
 
     fn from_datum(_alloc: Global, datum: Datum<'de>) -> de::Result<char> {
-        char_in(&datum)
+        let value = char_in(&datum);
+        drop(datum);
+        value
     }
 }
 
@@ -139,7 +143,9 @@ impl<'de> Deserialize<'de> for Double {
     }
 
     fn from_datum(_alloc: Global, datum: Datum<'de>) -> de::Result<Double> {
-        double_in(&datum)
+        let value = double_in(&datum);
+        drop(datum);
+        value
     }
 }
 
@@ -193,7 +199,7 @@ impl<'de> Deserialize<'de> for () {
     fn from_datum(_alloc: Global, datum: Datum<'de>) -> de::Result<()> {
         match datum {
             Datum::Unit => Ok(()),
-            _ => Err(not_fitting()),
+            other => Err(refuse(other)),
         }
     }
 }

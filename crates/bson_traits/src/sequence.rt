@@ -8,7 +8,7 @@ use crate::traits::{Deserialize, NeverNull, RoundTrip, Serialize};
 use bson_datum::Datum;
 use bson_growing::push;
 use bson_shape::{Shape, ShapeError};
-use bson_type_data::not_fitting;
+use bson_type_data::refuse;
 use bson_values::{de, ser};
 use std::alloc::Global;
 
@@ -47,7 +47,7 @@ impl<'de, T: Deserialize<'de> + Drop> Deserialize<'de> for Vec<T> {
     fn from_datum(alloc: Global, datum: Datum<'de>) -> de::Result<Vec<T>> {
         match datum {
             Datum::Seq(items) => values_of(alloc, items),
-            _ => Err(not_fitting()),
+            other => Err(refuse(other)),
         }
     }
 }

@@ -36,7 +36,9 @@ impl<'de> Deserialize<'de> for Decimal128 {
     }
 
     fn from_datum(alloc: Global, datum: Datum<'de>) -> de::Result<Decimal128> {
-        decimal_in(alloc, &datum)
+        let value = decimal_in(alloc, &datum);
+        drop(datum);
+        value
     }
 }
 
@@ -89,7 +91,9 @@ impl<'de> Deserialize<'de> for Uuid {
     }
 
     fn from_datum(alloc: Global, datum: Datum<'de>) -> de::Result<Uuid> {
-        uuid_in(alloc, &datum)
+        let value = uuid_in(alloc, &datum);
+        drop(datum);
+        value
     }
 }
 

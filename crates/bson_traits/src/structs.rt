@@ -38,7 +38,9 @@ impl<'de> Deserialize<'de> for DbPointer {
     }
 
     fn from_datum(alloc: Global, datum: Datum<'de>) -> de::Result<DbPointer> {
-        pointer_of(alloc, &datum)
+        let value = pointer_of(alloc, &datum);
+        drop(datum);
+        value
     }
 }
 
@@ -95,7 +97,9 @@ impl<'de> Deserialize<'de> for Regex {
     }
 
     fn from_datum(alloc: Global, datum: Datum<'de>) -> de::Result<Regex> {
-        regex_of(alloc, &datum)
+        let value = regex_of(alloc, &datum);
+        drop(datum);
+        value
     }
 }
 

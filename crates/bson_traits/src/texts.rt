@@ -5,7 +5,7 @@ ghost use Rattle.bson_traits.specs.ShapeOf.{IsShapeOf};
 use crate::traits::{Deserialize, NeverNull, RoundTrip, Serialize};
 use bson_datum::Datum;
 use bson_shape::{Shape, ShapeError};
-use bson_type_data::{known_text, not_fitting, string_of};
+use bson_type_data::{known_text, refuse, string_of};
 use bson_values::{Text, de, ser};
 use std::alloc::Global;
 
@@ -42,7 +42,7 @@ impl<'de> Deserialize<'de> for String {
     fn from_datum(alloc: Global, datum: Datum<'de>) -> de::Result<String> {
         match datum {
             Datum::Str(text) => Ok(string_of(alloc, text)?),
-            _ => Err(not_fitting()),
+            other => Err(refuse(other)),
         }
     }
 }
@@ -104,7 +104,7 @@ impl<'de> Deserialize<'de> for Text<'de> {
     fn from_datum(_alloc: Global, datum: Datum<'de>) -> de::Result<Text<'de>> {
         match datum {
             Datum::Str(text) => Ok(text),
-            _ => Err(not_fitting()),
+            other => Err(refuse(other)),
         }
     }
 }

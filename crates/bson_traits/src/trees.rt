@@ -39,7 +39,9 @@ impl<'de> Deserialize<'de> for Bson {
     }
 
     fn from_datum(alloc: Global, datum: Datum<'de>) -> de::Result<Bson> {
-        tree_in(alloc, &datum)
+        let value = tree_in(alloc, &datum);
+        drop(datum);
+        value
     }
 }
 
@@ -89,7 +91,9 @@ impl<'de> Deserialize<'de> for Document {
     }
 
     fn from_datum(alloc: Global, datum: Datum<'de>) -> de::Result<Document> {
-        document_in(alloc, &datum)
+        let value = document_in(alloc, &datum);
+        drop(datum);
+        value
     }
 }
 
@@ -145,7 +149,9 @@ impl<'de> Deserialize<'de> for JavaScriptCodeWithScope {
     }
 
     fn from_datum(alloc: Global, datum: Datum<'de>) -> de::Result<JavaScriptCodeWithScope> {
-        scoped_in(alloc, &datum)
+        let value = scoped_in(alloc, &datum);
+        drop(datum);
+        value
     }
 }
 

@@ -91,7 +91,7 @@ fn id_in(alloc: Global, mut elements: Elements<'_>) -> Reading<Uuid>
 fn pass_tree(alloc: Global, step: &Step<'_>) -> Reading<()>
     ensures exact { Reaches (λ u. u) result (tree_passed (str_piece step.now.key).bytes step.now.value) }
 {
-    read_under(alloc, step)?;
+    drop(read_under(alloc, step)?);
     Ok(())
 }
 
@@ -139,7 +139,9 @@ fn not_binary<'de>(
 fn wrong_kind(alloc: Global, value: Datum<'_>) -> Stop<de::Fault>
     ensures here { IsRefusedOrNoMemory (cause.wrong_kind (kind_of (view value.entry))) (stop_view read_fault result) }
 {
-    refused(alloc, Cause::WrongKind(value.element_type()))
+    let kind = value.element_type();
+    drop(value);
+    refused(alloc, Cause::WrongKind(kind))
 }
 
 /// The UUID of a binary in a document, which may also be of subtype 0.

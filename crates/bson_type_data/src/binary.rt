@@ -1,5 +1,5 @@
 // A binary as a datum, and the binary that a datum is.
-ghost use Rattle.std.specs.Prelude.{◌≡◌, ◌∷◌, [], codes, IfOk};
+ghost use Rattle.std.specs.Prelude.{◌≡◌, ◌∷◌, [], codes, IfOk, string_bytes};
 ghost use Rattle.std.specs.Option.{option_map};
 ghost use Rattle.std.specs.Prelude.{option_and_then};
 ghost use Rattle.bson_datum.specs.Access.{as_str, field};
@@ -11,13 +11,13 @@ ghost use Rattle.bson_values.specs.Value.{str};
 ghost use Rattle.bson_values.specs.Returned.{Reads};
 ghost use Rattle.bson_type_data.specs.Extended.{base64_in, binary_datum, binary_in, binary_said, taken_binary, subtype_in};
 
-use crate::data::{struct_of_one, struct_of_two};
+use crate::data::{is_equal, struct_of_one, struct_of_two, text_of};
 use crate::refusal::not_fitting;
 use base64::DecodeAllocError;
 use base64::engine::general_purpose::STANDARD;
 use bson_base::{Binary, BinarySubtype, base64_text, digits, subtype_of_text};
 use bson_datum::Datum;
-use bson_values::{ByteStr, Text, de};
+use bson_values::{ByteStr, de};
 use std::alloc::{AllocError, Global};
 
 /// The binary that a datum is.
@@ -31,7 +31,7 @@ pub fn binary_of(alloc: Global, datum: &Datum<'_>) -> de::Result<Binary>
     let Some((subtype, bytes)) = binary_said(alloc, datum)? else {
         return Err(not_fitting());
     };
-    if binary_datum(alloc, subtype, &bytes)? == *datum {
+    if is_equal(binary_datum(alloc, subtype, &bytes)?, datum) {
         return Ok(Binary::from_parts(subtype, bytes));
     }
     Err(not_fitting())
@@ -62,7 +62,7 @@ fn binary_datum<'x>(
     if subtype.0 == 0 {
         return Ok(Datum::Bytes(ByteStr::Owned(bytes.to_vec(alloc)?)));
     }
-    let base64 = Datum::Str(Text::Owned(base64_text(alloc, bytes)?));
+    let base64 = base64_text(alloc, bytes)?;
     let body = binary_body(alloc, base64, subtype)?;
     struct_of_one(alloc, "$binary", "$binary", body)
 }
@@ -70,13 +70,18 @@ fn binary_datum<'x>(
 // The struct of the base64 of a binary and of its subtype.
 fn binary_body<'x>(
     alloc: Global,
-    base64: Datum<'x>,
+    base64: String,
     subtype: BinarySubtype,
 ) -> Result<Datum<'x>, AllocError>
-    ensures { IfOk result (λ d. view d ≡ nameless itself (two itself (codes "base64") (view base64.entry) (codes "subType") (str (digits (subtype.0 ∷ []))))) }
+    ensures { IfOk result (λ d. view d ≡ nameless itself (two itself (codes "base64") (str (string_bytes base64)) (codes "subType") (str (digits (subtype.0 ∷ []))))) }
 {
-    let digits = Datum::Str(Text::Owned(digits(alloc, &[subtype.0])?));
-    struct_of_two(alloc, "", ("base64", base64), ("subType", digits))
+    let digits = digits(alloc, &[subtype.0])?;
+    struct_of_two(
+        alloc,
+        "",
+        ("base64", text_of(base64)),
+        ("subType", text_of(digits)),
+    )
 }
 
 // The subtype and the bytes that a value may be the datum of.

@@ -1,11 +1,12 @@
 // Structs of reserved names, as data.
-ghost use Rattle.std.specs.Prelude.{◌≡◌, IfOk};
+ghost use Rattle.std.specs.Prelude.{◌≡◌, IfOk, string_bytes};
 ghost use Rattle.bson_values.specs.TextView.{text_view};
-ghost use Rattle.bson_values.specs.Value.{structure, no_field_values, field_value};
+ghost use Rattle.bson_values.specs.Value.{structure, no_field_values, field_value, str};
 ghost use Rattle.bson_datum.specs.View.{view};
+ghost use Rattle.bson_values.specs.Same.{same};
 
 use bson_datum::{Datum, Field};
-use bson_growing::push;
+use bson_growing::{push, two};
 use bson_values::Text;
 use std::alloc::{AllocError, Global};
 
@@ -41,13 +42,9 @@ pub(crate) fn struct_of_two<'a>(
 ) -> Result<Datum<'a>, AllocError>
     ensures { IfOk result (λ d. view d ≡ structure name.now (field_value first.entry.0.now (view first.entry.1) (field_value second.entry.0.now (view second.entry.1) no_field_values))) }
 {
-    let mut fields = Vec::with_capacity(alloc, 2)?;
-    push(&mut fields, named(first))?;
-    push(&mut fields, named(second))?;
-    Ok(Datum::Struct {
-        name: Text::Borrowed(name),
-        fields,
-    })
+    let fields = two(alloc, named(first), named(second))?;
+    let name = Text::Borrowed(name);
+    Ok(Datum::Struct { name, fields })
 }
 
 // A field of this name and value.
@@ -60,4 +57,20 @@ fn named<'a>(field: (&'a str, Datum<'a>)) -> Field<'a>
         name: Text::Borrowed(name),
         value,
     }
+}
+
+// A text that is owned.
+pub(crate) fn text_of<'x>(text: String) -> Datum<'x>
+    ensures text { view result ≡ str (string_bytes text) }
+{
+    Datum::Str(Text::Owned(text))
+}
+
+// Whether a datum is equal to this one, which was made to be compared with it and is dropped.
+pub(crate) fn is_equal<'a>(made: Datum<'a>, datum: &Datum<'a>) -> bool
+    ensures { result ≡ same (view made.entry) (view datum.now) }
+{
+    let is_same = made == *datum;
+    drop(made);
+    is_same
 }

@@ -6,11 +6,11 @@ ghost use Rattle.bson_values.specs.Returned.{Reads};
 ghost use Rattle.bson_datum.specs.View.{view};
 ghost use Rattle.bson_type_data.specs.Extended.{id_datum, id_said, taken_id, date_datum, date_said, taken_date, stamp_datum, stamp_in, stamp_said, taken_stamp, unsigned_said};
 
-use crate::data::{struct_of_one, struct_of_two};
+use crate::data::{is_equal, struct_of_one, struct_of_two, text_of};
 use crate::refusal::not_fitting;
 use bson_base::{DateTime, ObjectId, Timestamp, integer_of_text, number_text};
 use bson_datum::Datum;
-use bson_values::{Text, de};
+use bson_values::de;
 use std::alloc::{AllocError, Global};
 
 /// The ObjectId that a datum is.
@@ -24,7 +24,7 @@ pub fn id_in(alloc: Global, datum: &Datum<'_>) -> de::Result<ObjectId>
     let Some(id) = id_said(datum) else {
         return Err(not_fitting());
     };
-    if id_datum(alloc, id)? == *datum {
+    if is_equal(id_datum(alloc, id)?, datum) {
         Ok(id)
     } else {
         Err(not_fitting())
@@ -39,8 +39,8 @@ pub fn id_in(alloc: Global, datum: &Datum<'_>) -> de::Result<ObjectId>
 pub fn id_datum<'x>(alloc: Global, id: ObjectId) -> Result<Datum<'x>, AllocError>
     ensures datum { IfOk result (λ d. view d ≡ id_datum id.0) }
 {
-    let digits = Text::Owned(id.to_hex(alloc)?);
-    struct_of_one(alloc, "$oid", "$oid", Datum::Str(digits))
+    let digits = id.to_hex(alloc)?;
+    struct_of_one(alloc, "$oid", "$oid", text_of(digits))
 }
 
 // The ObjectId that a value may be the datum of.
@@ -65,7 +65,7 @@ pub fn date_in(alloc: Global, datum: &Datum<'_>) -> de::Result<DateTime>
     let Some(time) = date_said(datum) else {
         return Err(not_fitting());
     };
-    if date_datum(alloc, time)? == *datum {
+    if is_equal(date_datum(alloc, time)?, datum) {
         Ok(time)
     } else {
         Err(not_fitting())
@@ -80,8 +80,8 @@ pub fn date_in(alloc: Global, datum: &Datum<'_>) -> de::Result<DateTime>
 pub fn date_datum<'x>(alloc: Global, time: DateTime) -> Result<Datum<'x>, AllocError>
     ensures datum { IfOk result (λ d. view d ≡ date_datum (millis time)) }
 {
-    let number = Text::Owned(number_text(alloc, time.timestamp_millis())?);
-    let body = struct_of_one(alloc, "", "$numberLong", Datum::Str(number))?;
+    let number = number_text(alloc, time.timestamp_millis())?;
+    let body = struct_of_one(alloc, "", "$numberLong", text_of(number))?;
     struct_of_one(alloc, "$date", "$date", body)
 }
 
@@ -104,7 +104,7 @@ pub fn stamp_of(alloc: Global, datum: &Datum<'_>) -> de::Result<Timestamp>
     let Some(stamp) = stamp_said(datum) else {
         return Err(not_fitting());
     };
-    if stamp_datum(alloc, stamp)? == *datum {
+    if is_equal(stamp_datum(alloc, stamp)?, datum) {
         Ok(stamp)
     } else {
         Err(not_fitting())

@@ -19,7 +19,7 @@ pub use inside::{
     bool_in, char_in, double_in, i8_in, i16_in, i32_in, i64_in, u8_in, u16_in, u32_in, u64_in,
 };
 pub use known::{known_eight, known_sixteen, known_text, known_twelve};
-pub use refusal::not_fitting;
+pub use refusal::{not_fitting, refuse};
 pub use sixteen::{decimal_datum, decimal_in, uuid_in, uuid_value};
 pub use structs::{pointer_datum, pointer_of, regex_datum, regex_of};
 pub use texts::string_of;

@@ -5,7 +5,7 @@ ghost use Rattle.bson_values.specs.Returned.{Reads};
 ghost use Rattle.bson_datum.specs.View.{view};
 ghost use Rattle.bson_type_data.specs.Extended.{sized, decimal_datum, decimal_said, taken_decimal, uuid_value, uuid_said, taken_uuid, compact_in};
 
-use crate::data::struct_of_one;
+use crate::data::{is_equal, struct_of_one, text_of};
 use crate::refusal::not_fitting;
 use bson_base::{Decimal128, Uuid};
 use bson_datum::Datum;
@@ -24,7 +24,7 @@ pub fn decimal_in(alloc: Global, datum: &Datum<'_>) -> de::Result<Decimal128>
     let Some(decimal) = decimal_said(datum) else {
         return Err(not_fitting());
     };
-    if decimal_datum(alloc, decimal)? == *datum {
+    if is_equal(decimal_datum(alloc, decimal)?, datum) {
         Ok(decimal)
     } else {
         Err(not_fitting())
@@ -67,7 +67,7 @@ pub fn uuid_in(alloc: Global, datum: &Datum<'_>) -> de::Result<Uuid>
     let Some(id) = uuid_said(datum) else {
         return Err(not_fitting());
     };
-    if uuid_value(alloc, id)? == *datum {
+    if is_equal(uuid_value(alloc, id)?, datum) {
         Ok(id)
     } else {
         Err(not_fitting())
@@ -82,8 +82,8 @@ pub fn uuid_in(alloc: Global, datum: &Datum<'_>) -> de::Result<Uuid>
 pub fn uuid_value<'x>(alloc: Global, id: Uuid) -> Result<Datum<'x>, AllocError>
     ensures { IfOk result (λ d. view d ≡ uuid_value id.0) }
 {
-    let text = Text::Owned(id.to_hyphenated(alloc)?);
-    let readable = boxed(alloc, Datum::Str(text))?;
+    let text = id.to_hyphenated(alloc)?;
+    let readable = boxed(alloc, text_of(text))?;
     let bits = ByteStr::Owned(id.0.to_vec(alloc)?);
     let compact = boxed(alloc, Datum::Bytes(bits))?;
     let value = boxed(alloc, Datum::Mode { readable, compact })?;

@@ -6,12 +6,12 @@ ghost use Rattle.bson_values.specs.Returned.{Reads};
 ghost use Rattle.bson_datum.specs.View.{view};
 ghost use Rattle.bson_type_data.specs.Extended.{pointer_datum, pointer_in, pointer_said, taken_pointer, regex_datum, regex_in, regex_said, taken_regex};
 
-use crate::data::{struct_of_one, struct_of_two};
+use crate::data::{is_equal, struct_of_one, struct_of_two, text_of};
 use crate::extended::id_said;
 use crate::refusal::not_fitting;
 use bson_base::{DbPointer, ObjectId, Regex};
 use bson_datum::Datum;
-use bson_values::{Text, de};
+use bson_values::de;
 use std::alloc::{AllocError, Global};
 
 /// The reference to a document that a datum is.
@@ -25,7 +25,7 @@ pub fn pointer_of(alloc: Global, datum: &Datum<'_>) -> de::Result<DbPointer>
     let Some((namespace, id)) = pointer_said(datum) else {
         return Err(not_fitting());
     };
-    if pointer_datum(alloc, namespace, id)? == *datum {
+    if is_equal(pointer_datum(alloc, namespace, id)?, datum) {
         let namespace = String::from_str(alloc, namespace)?;
         return Ok(DbPointer { namespace, id });
     }
@@ -44,10 +44,10 @@ pub fn pointer_datum<'x>(
 ) -> Result<Datum<'x>, AllocError>
     ensures { IfOk result (λ d. view d ≡ pointer_datum (namespace.now, id.0)) }
 {
-    let namespace = copied(alloc, namespace)?;
-    let digits = Text::Owned(id.to_hex(alloc)?);
-    let id = struct_of_one(alloc, "", "$oid", Datum::Str(digits))?;
-    let body = struct_of_two(alloc, "", ("$ref", namespace), ("$id", id))?;
+    let namespace = String::from_str(alloc, namespace)?;
+    let digits = id.to_hex(alloc)?;
+    let id = struct_of_one(alloc, "", "$oid", text_of(digits))?;
+    let body = struct_of_two(alloc, "", ("$ref", text_of(namespace)), ("$id", id))?;
     struct_of_one(alloc, "$dbPointer", "$dbPointer", body)
 }
 
@@ -78,7 +78,7 @@ pub fn regex_of(alloc: Global, datum: &Datum<'_>) -> de::Result<Regex>
     let Some((pattern, options)) = regex_said(datum) else {
         return Err(not_fitting());
     };
-    if regex_datum(alloc, pattern, options)? == *datum {
+    if is_equal(regex_datum(alloc, pattern, options)?, datum) {
         let pattern = String::from_str(alloc, pattern)?;
         let options = String::from_str(alloc, options)?;
         let regex = Regex::new(alloc, pattern, options)?;
@@ -95,9 +95,14 @@ pub fn regex_of(alloc: Global, datum: &Datum<'_>) -> de::Result<Regex>
 pub fn regex_datum<'x>(alloc: Global, pattern: &str, options: &str) -> Result<Datum<'x>, AllocError>
     ensures { IfOk result (λ d. view d ≡ regex_datum (pattern.now, options.now)) }
 {
-    let pattern = copied(alloc, pattern)?;
-    let options = copied(alloc, options)?;
-    let body = struct_of_two(alloc, "", ("pattern", pattern), ("options", options))?;
+    let pattern = String::from_str(alloc, pattern)?;
+    let options = String::from_str(alloc, options)?;
+    let body = struct_of_two(
+        alloc,
+        "",
+        ("pattern", text_of(pattern)),
+        ("options", text_of(options)),
+    )?;
     struct_of_one(alloc, "$regularExpression", "$regularExpression", body)
 }
 
@@ -121,5 +126,5 @@ fn regex_in<'d>(body: &'d Datum<'_>) -> Option<(&'d str, &'d str)>
 pub(crate) fn copied<'x>(alloc: Global, text: &str) -> Result<Datum<'x>, AllocError>
     ensures { IfOk result (λ d. view d ≡ str text.now) }
 {
-    Ok(Datum::Str(Text::Owned(String::from_str(alloc, text)?)))
+    Ok(text_of(String::from_str(alloc, text)?))
 }

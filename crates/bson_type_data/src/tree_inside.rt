@@ -15,7 +15,7 @@ ghost use Rattle.bson_type_data.specs.Scalars.{taken_text};
 ghost use Rattle.bson_type_data.specs.Trees.{text_under, text_said, taken_under, taken_only, taken_kind, taken_struct, taken_tree, taken_trees, taken_pairs, taken_document, taken_fields, taken_scoped, are_scoped, named_code, scoped_name, scoped_tree, scoped_contents};
 
 use crate::binary::binary_of;
-use crate::data::struct_of_one;
+use crate::data::{is_equal, struct_of_one};
 use crate::extended::{date_in, id_in, stamp_of};
 use crate::refusal::not_fitting;
 use crate::sixteen::decimal_in;
@@ -80,7 +80,7 @@ fn pairs_in(alloc: Global, entries: &[Entry<'_>]) -> de::Result<Document>
     for entry in entries {
         let key = text_in(alloc, &entry.key)?;
         let value = tree_in(alloc, &entry.value)?;
-        document.insert(key, value)?;
+        drop(document.insert(key, value)?);
     }
     Ok(document)
 }
@@ -233,7 +233,7 @@ fn code_in(alloc: Global, datum: &Datum<'_>) -> de::Result<String>
     let Some(text) = text_said(datum, "$code") else {
         return Err(not_fitting());
     };
-    if code_datum(alloc, text)? == *datum {
+    if is_equal(code_datum(alloc, text)?, datum) {
         return Ok(String::from_str(alloc, text)?);
     }
     Err(not_fitting())
@@ -254,7 +254,7 @@ fn symbol_in(alloc: Global, datum: &Datum<'_>) -> de::Result<String>
     let Some(text) = text_said(datum, "$symbol") else {
         return Err(not_fitting());
     };
-    if symbol_datum(alloc, text)? == *datum {
+    if is_equal(symbol_datum(alloc, text)?, datum) {
         return Ok(String::from_str(alloc, text)?);
     }
     Err(not_fitting())
@@ -279,7 +279,7 @@ fn text_said<'d>(datum: &'d Datum<'_>, name: &str) -> Option<&'d str>
 fn undefined_in(alloc: Global, datum: &Datum<'_>) -> de::Result<Bson>
     ensures { Reads tree_of result (taken_only trees.undefined (view datum.now)) }
 {
-    if undefined_datum(alloc)? == *datum {
+    if is_equal(undefined_datum(alloc)?, datum) {
         Ok(Bson::Undefined)
     } else {
         Err(not_fitting())
@@ -290,7 +290,7 @@ fn undefined_in(alloc: Global, datum: &Datum<'_>) -> de::Result<Bson>
 fn max_key_in(alloc: Global, datum: &Datum<'_>) -> de::Result<Bson>
     ensures { Reads tree_of result (taken_only trees.max_key (view datum.now)) }
 {
-    if max_key_datum(alloc)? == *datum {
+    if is_equal(max_key_datum(alloc)?, datum) {
         Ok(Bson::MaxKey)
     } else {
         Err(not_fitting())
@@ -301,7 +301,7 @@ fn max_key_in(alloc: Global, datum: &Datum<'_>) -> de::Result<Bson>
 fn min_key_in(alloc: Global, datum: &Datum<'_>) -> de::Result<Bson>
     ensures { Reads tree_of result (taken_only trees.min_key (view datum.now)) }
 {
-    if min_key_datum(alloc)? == *datum {
+    if is_equal(min_key_datum(alloc)?, datum) {
         Ok(Bson::MinKey)
     } else {
         Err(not_fitting())

@@ -26,12 +26,20 @@ fn code(alloc: Global) -> Result<JavaScriptCodeWithScope, AllocError> {
 /// A document with a value of each kind, a value, code with a scope, and what is read of a datum that is none of them.
 pub fn add_documents(lines: &mut Lines, alloc: Global) {
     match from_slice::<Document>(alloc, ALL) {
-        Ok(document) => add_document(lines, alloc, &document),
+        Ok(document) => {
+            add_document(lines, alloc, &document);
+            drop(document);
+        }
         Err(error) => lines.text("no document", &error),
     }
-    add_value(lines, alloc, &Bson::Int32(5));
+    let number = Bson::Int32(5);
+    add_value(lines, alloc, &number);
+    drop(number);
     match code(alloc) {
-        Ok(code) => add_value(lines, alloc, &code),
+        Ok(code) => {
+            add_value(lines, alloc, &code);
+            drop(code);
+        }
         Err(error) => lines.text("no code", &error),
     }
     add_read::<Bson>(lines, alloc, Datum::I8(5));

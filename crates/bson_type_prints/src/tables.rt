@@ -143,7 +143,10 @@ fn add_table(lines: &mut Lines, alloc: Global, table: &Table) {
 /// Adds what is read of the bytes of a document, and what is made of that.
 fn add_slice(lines: &mut Lines, alloc: Global, bytes: &[u8]) {
     match from_slice::<Table>(alloc, bytes) {
-        Ok(table) => add_table(lines, alloc, &table),
+        Ok(table) => {
+            add_table(lines, alloc, &table);
+            drop(table);
+        }
         Err(error) => lines.text("from_slice", &error),
     }
 }

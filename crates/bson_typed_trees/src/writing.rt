@@ -26,7 +26,9 @@ pub fn to_bson<T: Serialize>(alloc: Global, value: &T) -> ser::Result<Bson>
     ensures tree { Writes tree_of result (and_then (T.written value.now) (λ v. with_paths (tree_whole true v))) }
 {
     let datum = value.to_datum(alloc)?;
-    to_bson_at(alloc, &datum)
+    let made = to_bson_at(alloc, &datum);
+    drop(datum);
+    made
 }
 
 /// The BSON value that a value is, as [`to_bson`] makes it, with these options.
@@ -44,7 +46,9 @@ pub fn to_bson_with_options<T: Serialize>(
         (and_then (T.written value.now) (λ v. without_paths (tree_whole (unwrap_or options.human_readable true) v))) }
 {
     let datum = value.to_datum(alloc)?;
-    to_bson_with_options_at(alloc, &datum, options)
+    let made = to_bson_with_options_at(alloc, &datum, options);
+    drop(datum);
+    made
 }
 
 /// The document that a value is, as [`to_bson`] makes it.
@@ -57,7 +61,9 @@ pub fn to_document<T: Serialize>(alloc: Global, value: &T) -> ser::Result<Docume
     ensures pairs { Writes pairs_of result (and_then (T.written value.now) (λ v. without_paths (document_whole true v))) }
 {
     let datum = value.to_datum(alloc)?;
-    to_document_at(alloc, &datum)
+    let made = to_document_at(alloc, &datum);
+    drop(datum);
+    made
 }
 
 /// The document that a value is, as [`to_bson`] makes it, with these options.
@@ -75,5 +81,7 @@ pub fn to_document_with_options<T: Serialize>(
         (and_then (T.written value.now) (λ v. without_paths (document_whole (unwrap_or options.human_readable true) v))) }
 {
     let datum = value.to_datum(alloc)?;
-    to_document_with_options_at(alloc, &datum, options)
+    let made = to_document_with_options_at(alloc, &datum, options);
+    drop(datum);
+    made
 }

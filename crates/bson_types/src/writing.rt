@@ -23,7 +23,11 @@ pub fn to_vec<T: Serialize>(alloc: Global, value: &T) -> ser::Result<Vec<u8>>
     ensures bytes { WritesBytes (λ v. v.items) (T.written value.now) result }
 {
     match value.to_datum(alloc) {
-        Ok(datum) => to_vec_at(alloc, &datum),
+        Ok(datum) => {
+            let bytes = to_vec_at(alloc, &datum);
+            drop(datum);
+            bytes
+        }
         Err(error) => Err(error),
     }
 }
@@ -37,7 +41,11 @@ pub fn to_raw_document_buf<T: Serialize>(alloc: Global, value: &T) -> ser::Resul
     ensures bytes { WritesBytes (λ d. d) (T.written value.now) result }
 {
     match value.to_datum(alloc) {
-        Ok(datum) => document_of(alloc, &datum),
+        Ok(datum) => {
+            let document = document_of(alloc, &datum);
+            drop(datum);
+            document
+        }
         Err(error) => Err(error),
     }
 }

@@ -16,6 +16,7 @@ ghost use Rattle.bson_wrapped.specs.Data.{scoped_datum};
 
 use bson_base::{BinarySubtype, DateTime, Decimal128, ObjectId, Regex, Timestamp, Uuid};
 use bson_datum::{Datum, Entry, Field};
+use bson_growing::boxed;
 use bson_met::{MetBytes, MetText};
 use bson_slots::{named_field, named_struct};
 use bson_values::{ByteStr, Text};
@@ -351,9 +352,9 @@ pub fn min_key<'de>(alloc: Global) -> Result<Datum<'de>, AllocError>
 pub fn uuid<'de>(alloc: Global, id: Uuid) -> Result<Datum<'de>, AllocError>
     ensures datum { IfOk result (λ d. marked d ≡ uuid_datum made id.0) }
 {
-    let readable = Box::new(alloc, text(id.to_hyphenated(alloc)?))?;
-    let compact = Box::new(alloc, bytes(alloc, &id.0)?)?;
-    let value = Box::new(alloc, Datum::Mode { readable, compact })?;
+    let readable = boxed(alloc, text(id.to_hyphenated(alloc)?))?;
+    let compact = boxed(alloc, bytes(alloc, &id.0)?)?;
+    let value = boxed(alloc, Datum::Mode { readable, compact })?;
     let name = Text::Owned(String::from_str(alloc, "$__bson_private_uuid")?);
     Ok(Datum::NewtypeStruct { name, value })
 }

@@ -19,18 +19,25 @@ enum Part {
     EntryOfNumber,
 }
 
+/// Adds what the writer of a document answers to an entry of this key.
+fn add_entry(
+    lines: &mut Lines,
+    writer: &mut DocumentWriter<'_>,
+    key: Datum<'_>,
+    value: &Datum<'_>,
+) {
+    let mut steps = Steps::<Tally>::new();
+    lines.made("entry", writer.entry(&key, value, &mut steps));
+    drop(key);
+}
+
 /// Adds what the writer of a document answers to a part.
 fn add_part(lines: &mut Lines, writer: &mut DocumentWriter<'_>, part: Part, value: &Datum<'_>) {
     let mut steps = Steps::<Tally>::new();
     match part {
         Part::Element => lines.made("element", writer.element(value, &mut steps)),
-        Part::Entry(key) => {
-            let key = Datum::Str(Text::Borrowed(key));
-            lines.made("entry", writer.entry(&key, value, &mut steps));
-        }
-        Part::EntryOfNumber => {
-            lines.made("entry", writer.entry(&Datum::I32(1), value, &mut steps));
-        }
+        Part::Entry(key) => add_entry(lines, writer, Datum::Str(Text::Borrowed(key)), value),
+        Part::EntryOfNumber => add_entry(lines, writer, Datum::I32(1), value),
     }
 }
 
@@ -142,23 +149,36 @@ const ENTRIES: [Part; 3] = [Part::Entry("i"), Part::Element, Part::Entry("j")];
 /// Elements with an entry between them.
 const ELEMENTS: [Part; 3] = [Part::Element, Part::Entry("i"), Part::Element];
 
+/// Adds what each writer answers to parts of this value.
+fn add_parts(
+    lines: &mut Lines,
+    alloc: Global,
+    entries: &[Part],
+    elements: &[Part],
+    value: Datum<'_>,
+) {
+    add_writers(lines, alloc, entries, elements, &value);
+    drop(value);
+}
+
 /// Each writer takes its part; refuses a value, and then what it has to take; and refuses a part of the wrong form, and then what it has to take.
 fn add_each(lines: &mut Lines, alloc: Global) {
     let number = Datum::I32(1);
-    add_writers(lines, alloc, &ENTRIES[..1], &ELEMENTS[..1], &number);
-    add_writers(lines, alloc, &ENTRIES, &ELEMENTS, &Datum::U64(u64::MAX));
-    add_writers(lines, alloc, &ENTRIES, &ELEMENTS, &number);
+    add_parts(lines, alloc, &ENTRIES[..1], &ELEMENTS[..1], number);
+    add_parts(lines, alloc, &ENTRIES, &ELEMENTS, Datum::U64(u64::MAX));
+    add_parts(lines, alloc, &ENTRIES, &ELEMENTS, Datum::I32(1));
 }
 
 /// Adds a key that is no text, a key with a zero character, and the name of a variant with one.
-fn add_names(lines: &mut Lines, alloc: Global, value: &Datum<'_>) {
-    add_document(lines, alloc, &[Part::EntryOfNumber], value);
-    add_struct_variant(lines, alloc, &[Part::Entry("i\0")], value);
-    add_tuple_variant(lines, alloc, "T\0", &[], value);
+fn add_names(lines: &mut Lines, alloc: Global, value: Datum<'_>) {
+    add_document(lines, alloc, &[Part::EntryOfNumber], &value);
+    add_struct_variant(lines, alloc, &[Part::Entry("i\0")], &value);
+    add_tuple_variant(lines, alloc, "T\0", &[], &value);
+    drop(value);
 }
 
 /// The calls of each writer.
 pub fn add_calls(lines: &mut Lines, alloc: Global) {
     add_each(lines, alloc);
-    add_names(lines, alloc, &Datum::Bool(true));
+    add_names(lines, alloc, Datum::Bool(true));
 }

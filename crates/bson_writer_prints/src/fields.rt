@@ -1,5 +1,6 @@
 // The fields of a struct, from the cells of a line.
 use bson_datum::{Datum, Entry, Field};
+use bson_growing::push;
 use bson_values::{ByteStr, Text};
 use std::alloc::{AllocError, Global};
 
@@ -22,7 +23,7 @@ fn push_field<'l>(alloc: Global, fields: &mut Vec<Field<'l>>, cell: &'l str) -> 
     let (sort, said) = split_of(rest);
     let name = Text::Borrowed(key);
     match value_of(alloc, sort, said) {
-        Some(value) => fields.push(Field { name, value }).is_ok(),
+        Some(value) => push(fields, Field { name, value }).is_ok(),
         None => false,
     }
 }
@@ -79,5 +80,7 @@ fn number_of<'l>(said: &str) -> Option<Datum<'l>> {
 fn scope<'l>(alloc: Global) -> Result<Datum<'l>, AllocError> {
     let key = Datum::I32(7);
     let value = Datum::Bool(true);
-    Ok(Datum::Map(vec![in alloc; Entry { key, value }]?))
+    let mut entries = Vec::new(alloc);
+    push(&mut entries, Entry { key, value })?;
+    Ok(Datum::Map(entries))
 }

@@ -54,7 +54,10 @@ fn add_document(lines: &mut Lines, alloc: Global, document: &Datum<'_>) {
 fn add_at_once<'l>(lines: &mut Lines, alloc: Global, name: &'l str, fields: Vec<Field<'l>>) {
     let name = Text::Borrowed(name);
     match under_x(alloc, Datum::Struct { name, fields }) {
-        Ok(document) => add_document(lines, alloc, &document),
+        Ok(document) => {
+            add_document(lines, alloc, &document);
+            drop(document);
+        }
         Err(error) => lines.text("no document", &error),
     }
 }

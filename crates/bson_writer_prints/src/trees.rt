@@ -1,5 +1,6 @@
 // The writer of trees: whole values, and values part by part.
 use bson_datum::{Datum, Entry};
+use bson_growing::push;
 use bson_lines::Lines;
 use bson_ser_tree::{
     MapSerializer, Serializer, SerializerOptions, to_bson_at, to_bson_with_options_at,
@@ -42,13 +43,18 @@ fn add_documents(lines: &mut Lines, alloc: Global, value: &Datum<'_>) {
 fn object_id<'x>(alloc: Global) -> Result<Datum<'x>, AllocError> {
     let key = Datum::Str(Text::Borrowed("$oid"));
     let value = Datum::Str(Text::Borrowed("507f1f77bcf86cd799439011"));
-    Ok(Datum::Map(vec![in alloc; Entry { key, value }]?))
+    let mut entries = Vec::new(alloc);
+    push(&mut entries, Entry { key, value })?;
+    Ok(Datum::Map(entries))
 }
 
 /// Adds a map that is folded.
 fn add_folded(lines: &mut Lines, alloc: Global) {
     match object_id(alloc) {
-        Ok(map) => lines.made("folded", to_bson_at(alloc, &map)),
+        Ok(map) => {
+            lines.made("folded", to_bson_at(alloc, &map));
+            drop(map);
+        }
         Err(error) => lines.text("no map", &error),
     }
 }
@@ -111,10 +117,17 @@ fn add_key(lines: &mut Lines, writer: &mut MapSerializer, key: &Datum<'_>) {
     lines.made("key of a map", writer.serialize_key(key));
 }
 
+/// Adds the answer to the key `a`.
+fn add_text_key(lines: &mut Lines, writer: &mut MapSerializer) {
+    let key = Datum::Str(Text::Borrowed("a"));
+    add_key(lines, writer, &key);
+    drop(key);
+}
+
 /// Adds a map of a value under the key `a`.
 fn add_map(lines: &mut Lines, alloc: Global, value: &Datum<'_>) {
     let mut writer = Serializer::new().serialize_map(alloc);
-    add_key(lines, &mut writer, &Datum::Str(Text::Borrowed("a")));
+    add_text_key(lines, &mut writer);
     lines.made("value of a map", writer.serialize_value(value));
     lines.made("end", writer.end());
 }
@@ -123,7 +136,7 @@ fn add_map(lines: &mut Lines, alloc: Global, value: &Datum<'_>) {
 fn add_map_without_keys(lines: &mut Lines, alloc: Global, value: &Datum<'_>) {
     let mut writer = Serializer::new().serialize_map(alloc);
     lines.made("value of a map", writer.serialize_value(value));
-    add_key(lines, &mut writer, &Datum::Str(Text::Borrowed("a")));
+    add_text_key(lines, &mut writer);
     lines.made("end", writer.end());
 }
 
@@ -151,6 +164,8 @@ fn add_value(lines: &mut Lines, alloc: Global, value: &Datum<'_>) {
 
 /// A number by each call, and a map that is folded.
 pub fn add_trees(lines: &mut Lines, alloc: Global) {
-    add_value(lines, alloc, &Datum::I32(5));
+    let value = Datum::I32(5);
+    add_value(lines, alloc, &value);
+    drop(value);
     add_folded(lines, alloc);
 }

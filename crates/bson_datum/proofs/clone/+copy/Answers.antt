@@ -1,13 +1,43 @@
 use Rattle.std.proofs.Common.{◌∷◌, ap}
 use Rattle.bson_values.specs.TextView.{text_view}
-use Rattle.bson_values.specs.Value.{tuple_structure, tuple_variant, structure, structure_variant}
-use Rattle.bson_datum.specs.View.{view, items_view, entry_view, field_view, fields_view}
+use Rattle.bson_values.specs.Value.{sequence, tuple, map, tuple_structure, tuple_variant, structure, structure_variant}
+use Rattle.bson_datum.specs.View.{view, items_view, entry_view, entries_view, field_view, fields_view}
 use Rattle.bson_values.specs.Pieces.{text_borrowed}
-use Rattle.bson_datum.specs.Borrowed.{borrowed_parts, items_borrowed, entry_borrowed, field_borrowed, fields_borrowed}
-use Rattle.bson_datum.proofs.Views.{view-TupleStruct, view-TupleVariant, view-Struct, view-StructVariant}
-use Rattle.bson_datum.proofs.BorrowedRows.{item_rows_are_borrowed, rows_are_borrowed}
+use Rattle.bson_datum.specs.Borrowed.{borrowed_parts, items_borrowed, entry_borrowed, entries_borrowed, field_borrowed, fields_borrowed}
+use Rattle.bson_datum.proofs.Views.{view-Seq, view-Tuple, view-Map, view-TupleStruct, view-TupleVariant, view-Struct, view-StructVariant}
+use Rattle.bson_datum.proofs.BorrowedRows.{item_rows_are_borrowed, entry_rows_are_borrowed, rows_are_borrowed}
 use Rattle.bson_datum.proofs.Copies.{same_items_view, same_entries_view, same_fields_view, same_parts, seen_all, told_of}
 use Rattle.bson_datum.proofs.clone.+copy.Goals as goal
+
+pub copy-returns-in-Seq-clause-equal : goal.copy-returns-in-Seq-clause-equal
+copy-returns-in-Seq-clause-equal t c =
+    let it = c.in-Seq in
+    told_of view (λ xs. sequence (items_view xs)) _ _ _ _ _ it.is c.deref-in-Seq.ensures.value (view-Seq it.items) c.copy_sequence.ensures.equal
+
+pub copy-returns-in-Seq-clause-borrowed : goal.copy-returns-in-Seq-clause-borrowed
+copy-returns-in-Seq-clause-borrowed t c =
+    let it = c.in-Seq in
+    told_of borrowed_parts items_borrowed _ _ _ _ _ it.is c.deref-in-Seq.ensures.value (item_rows_are_borrowed it.items) c.copy_sequence.ensures.borrowed
+
+pub copy-returns-in-Tuple-clause-equal : goal.copy-returns-in-Tuple-clause-equal
+copy-returns-in-Tuple-clause-equal t c =
+    let it = c.in-Tuple in
+    told_of view (λ xs. tuple (items_view xs)) _ _ _ _ _ it.is c.deref-in-Tuple.ensures.value (view-Tuple it.items) c.copy_tuple.ensures.equal
+
+pub copy-returns-in-Tuple-clause-borrowed : goal.copy-returns-in-Tuple-clause-borrowed
+copy-returns-in-Tuple-clause-borrowed t c =
+    let it = c.in-Tuple in
+    told_of borrowed_parts items_borrowed _ _ _ _ _ it.is c.deref-in-Tuple.ensures.value (item_rows_are_borrowed it.items) c.copy_tuple.ensures.borrowed
+
+pub copy-returns-in-Map-clause-equal : goal.copy-returns-in-Map-clause-equal
+copy-returns-in-Map-clause-equal t c =
+    let it = c.in-Map in
+    told_of view (λ xs. map (entries_view xs)) _ _ _ _ _ it.is c.deref-in-Map.ensures.value (view-Map it.entries) c.copy_map.ensures.equal
+
+pub copy-returns-in-Map-clause-borrowed : goal.copy-returns-in-Map-clause-borrowed
+copy-returns-in-Map-clause-borrowed t c =
+    let it = c.in-Map in
+    told_of borrowed_parts entries_borrowed _ _ _ _ _ it.is c.deref-in-Map.ensures.value (entry_rows_are_borrowed it.entries) c.copy_map.ensures.borrowed
 
 pub copy-returns-in-TupleStruct-clause-equal : goal.copy-returns-in-TupleStruct-clause-equal
 copy-returns-in-TupleStruct-clause-equal t c =

@@ -1,8 +1,46 @@
-use Rattle.std.proofs.Common.{◌≡◌, map, length, ap, ◌∙◌, arith}
+use Rattle.std.proofs.Common.{◌≡◌, map, length, refl, ap, ◌∙◌, arith}
 use Rattle.std.specs.Vec.Iter.{into_iter_len}
-use Rattle.bson_datum.specs.View.{view, entry_view, field_view}
-use Rattle.bson_datum.proofs.Copies.{same_items_view, same_entries_view, same_fields_view, all_yielded}
+use Rattle.bson_values.specs.TextView.{text_view}
+use Rattle.bson_values.specs.Value.{sequence, tuple, map as mapping, tuple_structure, tuple_variant, structure, structure_variant}
+use Rattle.bson_datum.specs.View.{view, items_view, entry_view, entries_view, field_view, fields_view}
+use Rattle.bson_datum.proofs.Views.{view-Seq, view-Tuple, view-Map, view-TupleStruct, view-TupleVariant, view-Struct, view-StructVariant}
+use Rattle.bson_datum.proofs.Copies.{same_items_view, same_entries_view, same_fields_view, all_yielded, told_of}
 use Rattle.bson_datum.proofs.clone.+owned.Goals as goal
+
+pub owned-returns-in-Seq-clause-equal : goal.owned-returns-in-Seq-clause-equal
+owned-returns-in-Seq-clause-equal t c =
+    let it = c.in-Seq in
+    told_of view (λ xs. sequence (items_view xs)) _ _ _ _ _ it.is refl (view-Seq it.items) c.owned_sequence.ensures.equal
+
+pub owned-returns-in-Tuple-clause-equal : goal.owned-returns-in-Tuple-clause-equal
+owned-returns-in-Tuple-clause-equal t c =
+    let it = c.in-Tuple in
+    told_of view (λ xs. tuple (items_view xs)) _ _ _ _ _ it.is refl (view-Tuple it.items) c.owned_tuple.ensures.equal
+
+pub owned-returns-in-Map-clause-equal : goal.owned-returns-in-Map-clause-equal
+owned-returns-in-Map-clause-equal t c =
+    let it = c.in-Map in
+    told_of view (λ xs. mapping (entries_view xs)) _ _ _ _ _ it.is refl (view-Map it.entries) c.owned_map.ensures.equal
+
+pub owned-returns-in-TupleStruct-clause-equal : goal.owned-returns-in-TupleStruct-clause-equal
+owned-returns-in-TupleStruct-clause-equal t c =
+    let it = c.in-TupleStruct in
+    told_of view (λ xs. tuple_structure (text_view it.name) (items_view xs)) _ _ _ _ _ it.is refl (view-TupleStruct it.name it.items) c.owned_tuple_struct.ensures.equal
+
+pub owned-returns-in-TupleVariant-clause-equal : goal.owned-returns-in-TupleVariant-clause-equal
+owned-returns-in-TupleVariant-clause-equal t c =
+    let it = c.in-TupleVariant in
+    told_of view (λ xs. tuple_variant (text_view it.variant) (items_view xs)) _ _ _ _ _ it.is refl (view-TupleVariant it.variant it.items) c.owned_tuple_variant.ensures.equal
+
+pub owned-returns-in-Struct-clause-equal : goal.owned-returns-in-Struct-clause-equal
+owned-returns-in-Struct-clause-equal t c =
+    let it = c.in-Struct in
+    told_of view (λ xs. structure (text_view it.name) (fields_view xs)) _ _ _ _ _ it.is refl (view-Struct it.name it.fields) c.owned_struct.ensures.equal
+
+pub owned-returns-in-StructVariant-clause-equal : goal.owned-returns-in-StructVariant-clause-equal
+owned-returns-in-StructVariant-clause-equal t c =
+    let it = c.in-StructVariant in
+    told_of view (λ xs. structure_variant (text_view it.variant) (fields_view xs)) _ _ _ _ _ it.is refl (view-StructVariant it.variant it.fields) c.owned_struct_variant.ensures.equal
 
 pub owned_items-returns-clause-equal : goal.owned_items-returns-clause-equal
 owned_items-returns-clause-equal t c =

@@ -2,7 +2,7 @@ use Rattle.std.proofs.Common.{◌≡◌, [], ◌∷◌, map, string_bytes, refl,
 use Rattle.std.specs.Prelude.{IfOk}
 use Rattle.bson_program.specs.Command.{Asked}
 use Rattle.bson_program.specs.OneShape.{one_shape}
-use Rattle.bson_recast_run.proofs.OneWord.{one_word}
+use Rattle.bson_program.proofs.OneWord.{one_word}
 use Rattle.bson_migrate_run.specs.Lines.{migrate_usage}
 use Rattle.bson_migrate_run.proofs.running.asked.Goals as goal
 

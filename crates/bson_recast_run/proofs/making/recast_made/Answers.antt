@@ -1,8 +1,8 @@
 use Rattle.std.proofs.Common.{Ok, Err, subst, inl, inr}
 use Rattle.bson_base.specs.Tree.{enc}
-use Rattle.bson_made.specs.Made.{rows_document}
-use Rattle.bson_made.proofs.Sound.{kept_fields}
-use Rattle.bson_recast_run.specs.Recasting.{GivesBytes}
+use Rattle.bson_recast_run.specs.Made.{rows_document}
+use Rattle.bson_recast_run.proofs.Sound.{kept_fields}
+use Rattle.bson_recasting.specs.Recasting.{GivesBytes}
 use Rattle.bson_recast_run.proofs.MadeRecast.{gives_kept, kept_fits}
 use Rattle.bson_recast_run.proofs.making.recast_made.Goals as goal
 

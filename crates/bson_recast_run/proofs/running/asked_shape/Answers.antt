@@ -5,7 +5,7 @@ use Rattle.std.proofs.lemmas.Str.Pattern.{starts_text}
 use Rattle.bson_program.specs.Command.{Asked}
 use Rattle.bson_program.specs.OneShape.{one_shape}
 use Rattle.bson_recast_run.specs.PrintedLines.{recast_usage}
-use Rattle.bson_recast_run.proofs.OneWord.{one_word}
+use Rattle.bson_program.proofs.OneWord.{one_word}
 use Rattle.bson_recast_run.proofs.running.asked_shape.Goals as goal
 
 pub returns-in-len1 : goal.returns-in-len1

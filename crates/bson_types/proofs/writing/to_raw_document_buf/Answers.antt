@@ -4,7 +4,7 @@ use Rattle.bson_types.proofs.writing.to_raw_document_buf.Goals as goal
 
 pub returns-in-Ok : goal.returns-in-Ok
 returns-in-Ok g c = record {
-  bytes = value_written (λ d. d) (view c.in-Ok.datum) (g.T.Serialize.written c.args.value.now) c.document_of.result c.in-Ok.ensures.datum c.document_of.ensures;
+  bytes = value_written (λ d. d) (view c.in-Ok.datum) (g.T.Serialize.written c.args.value.now) c.document_of-document.result c.in-Ok.ensures.datum c.document_of-document.ensures;
 }
 
 pub returns-in-Err : goal.returns-in-Err

@@ -4,7 +4,7 @@ use Rattle.bson_types.proofs.writing.to_vec.Goals as goal
 
 pub returns-in-Ok : goal.returns-in-Ok
 returns-in-Ok g c = record {
-  bytes = datum_written (view c.in-Ok.datum) (g.T.Serialize.written c.args.value.now) c.to_vec_at.result c.in-Ok.ensures.datum c.to_vec_at.ensures.bytes c.to_vec_at.ensures.fits c.to_vec_at.ensures.refused c.to_vec_at.ensures.too_long c.to_vec_at.ensures.sound;
+  bytes = datum_written (view c.in-Ok.datum) (g.T.Serialize.written c.args.value.now) c.to_vec_at-bytes.result c.in-Ok.ensures.datum c.to_vec_at-bytes.ensures.bytes c.to_vec_at-bytes.ensures.fits c.to_vec_at-bytes.ensures.refused c.to_vec_at-bytes.ensures.too_long c.to_vec_at-bytes.ensures.sound;
 }
 
 pub returns-in-Err : goal.returns-in-Err

@@ -1,6 +1,0 @@
-//! Documents of rows that are made.
-#![tactic(auto)]
-
-mod making;
-
-pub use making::made;

@@ -1,0 +1,4 @@
+pub mod RecastErrors
+mod AtOnce
+pub mod Migrates
+pub mod Again

@@ -1,0 +1,2 @@
+pub mod Recasting
+pub mod RefusedLines
