@@ -209,10 +209,20 @@
 //!     let mut steps = Steps::<Tally>::new();
 //!     let mut out = Out::new(alloc);
 //!     let mut person = DocumentWriter::start(&mut out, false, false, &mut steps)?;
-//!     person.entry(&text("name"), &text(name), &mut steps)?;
-//!     person.entry(&text("age"), &Datum::U8(age), &mut steps)?;
+//!     put(&mut person, "name", text(name), &mut steps)?;
+//!     put(&mut person, "age", Datum::U8(age), &mut steps)?;
 //!     person.end(&mut steps)?;
 //!     Ok(out.into_vec())
+//! }
+//!
+//! /// Writes a field behind those before it.
+//! fn put(
+//!     person: &mut DocumentWriter<'_>,
+//!     name: &str,
+//!     value: Datum<'_>,
+//!     steps: &mut Steps<Tally>,
+//! ) -> ser::Result<()> {
+//!     person.entry(&text(name), &value, steps)
 //! }
 //!
 //! /// The same document in memory.
