@@ -49,8 +49,8 @@ pub use Rattle.bson_rawdoc.specs.Extent
 pub use Rattle.bson_rawdoc.specs.Get
 pub use Rattle.bson_rawdoc.specs.Next as RawNext
 pub use Rattle.bson_rawdoc.specs.Node
-pub use Rattle.bson_rawdoc.specs.Piece
-pub use Rattle.bson_rawdoc.specs.Printed as RawPrinted
+pub use Rattle.bson_kinds.specs.Piece
+pub use Rattle.bson_faults.specs.Printed as RawPrinted
 pub use Rattle.bson_rawdoc.specs.RawValue
 pub use Rattle.bson_rawdoc.specs.ValueView
 pub use Rattle.bson_rawdoc.specs.Walk

@@ -1,6 +1,6 @@
 -- What contracts see of a datum with its marks. Source: serde's data model, borrowed and owned strings.
 use Rattle.std.specs.Prelude.{pos}
-use Rattle.bson_rawdoc.specs.Piece.{Piece}
+use Rattle.bson_kinds.specs.Piece.{Piece}
 use Rattle.bson_datum.specs.RawView.{raw_document_view, raw_array_view}
 use Rattle.bson_values.specs.Pieces.{text_piece, bytes_piece}
 use Rattle.bson_datum.specs.Borrowed.{raw_document_borrowed, raw_array_borrowed}

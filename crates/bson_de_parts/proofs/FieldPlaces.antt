@@ -4,7 +4,7 @@ use Rattle.std.proofs.Math.Seq.{drop-cons}
 use Rattle.std.proofs.lemmas.List.{drop_all}
 use Rattle.bson_kinds.specs.Outcome.{◌>>=◌, result_map}
 use Rattle.bson_rawdoc.specs.Node.{Nodes}
-use Rattle.bson_rawdoc.specs.Piece.{made}
+use Rattle.bson_kinds.specs.Piece.{made}
 use Rattle.bson_shape.specs.ShapeView.{fields_of}
 use Rattle.bson_shape.specs.declared.shape.FieldShape.{FieldShape}
 use Rattle.bson_values.specs.Marked.{MarkedFields}

@@ -6,7 +6,7 @@ use Rattle.bson_kinds.specs.Outcome.{◌>>=◌}
 use Rattle.bson_kinds.specs.Text.{Utf8}
 use Rattle.bson_kinds.specs.declared.element_type.ElementType.TheVariants.{Null}
 use Rattle.bson_rawdoc.specs.Node.{Node, Nodes, ended, faulty, then_node}
-use Rattle.bson_rawdoc.specs.Piece.{Piece}
+use Rattle.bson_kinds.specs.Piece.{Piece}
 use Rattle.bson_shape.specs.Form.{Content}
 use Rattle.bson_shape.specs.ShapeView as shape_view
 use Rattle.bson_shape.specs.ShapeView.{variants_of}

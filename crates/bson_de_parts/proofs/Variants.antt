@@ -4,7 +4,7 @@ use Rattle.std.specs.Str.{bytes_eq}
 use Rattle.bson_kinds.specs.Text.{Utf8}
 use Rattle.bson_kinds.specs.Outcome.{◌>>=◌}
 use Rattle.bson_rawdoc.specs.Node.{Node, string, Nodes, ended, faulty, then_node}
-use Rattle.bson_rawdoc.specs.Piece.{Piece}
+use Rattle.bson_kinds.specs.Piece.{Piece}
 use Rattle.bson_shape.specs.Form.{enumeration, Variants}
 use Rattle.bson_shape.specs.Makers.{AreVariants, IsContent}
 use Rattle.bson_shape.specs.ShapeView as shape_view

@@ -17,7 +17,7 @@ use Rattle.bson_rawdoc.specs.DocumentTree.{pairs_with, and_last, trees_with, pai
 use Rattle.bson_rawdoc.specs.Extent.{extent}
 use Rattle.bson_rawdoc.specs.RawValue.{value_in}
 use Rattle.bson_rawdoc.specs.Walk.{walk_elements}
-use Rattle.bson_rawdoc.specs.declared.raw.Error.{Error}
+use Rattle.bson_faults.specs.declared.raw.Error.{Error}
 use Rattle.bson_rawdoc.proofs.Pieces.{cut-nil, cut_more}
 use Rattle.bson_rawdoc.proofs.Walks.{walk-nil}
 use Rattle.bson_laws.specs.Datum.{sorted_tree, sorted_pairs, sorted_trees}

@@ -15,7 +15,7 @@ use Rattle.bson_rawdoc.specs.Numbers.{uint32_in, int32_in}
 use Rattle.bson_rawdoc.specs.Envelope.{is_closed, inside}
 use Rattle.bson_rawdoc.specs.RawValue as raw
 use Rattle.bson_rawdoc.specs.RawValue.{RawValue, utf8_in, text_in, closed_in, old_binary_in, bytes_of_subtype, binary_in, regex_of, db_pointer_in, code_and_scope, scoped_parts, scoped_code, scoped_code_in, value_in}
-use Rattle.bson_rawdoc.specs.declared.raw.Error.TheVariants.{NotUtf8, TextUnclosed, ValueUnclosed}
+use Rattle.bson_faults.specs.declared.raw.Error.TheVariants.{NotUtf8, TextUnclosed, ValueUnclosed}
 use Rattle.bson_laws.proofs.Coded.{IsCoded}
 use Rattle.bson_laws.proofs.Numbers.{int32_again, int64_again, uint32_again, length_again, announced_length}
 use Rattle.bson_laws.proofs.Judged.{IsNotRaw}

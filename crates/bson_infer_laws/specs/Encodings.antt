@@ -7,7 +7,7 @@ use Rattle.bson_base.specs.Tree.{Pairs, Trees, no_trees, enc}
 use Rattle.bson_rawdoc.specs.Cut.{Cut}
 use Rattle.bson_rawdoc.specs.DocumentTree.{document_pairs}
 use Rattle.bson_rawdoc.specs.Envelope.{envelope}
-use Rattle.bson_rawdoc.specs.declared.raw.Error.{Error}
+use Rattle.bson_faults.specs.declared.raw.Error.{Error}
 
 -- the pairs of the document that the bytes are, or the first fault in them
 abbrev pub piece_pairs : Bytes → Result Pairs Error

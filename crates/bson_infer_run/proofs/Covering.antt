@@ -15,7 +15,7 @@ use Rattle.bson_rawdoc.specs.RawValue as raw
 use Rattle.bson_rawdoc.specs.RawValue.{RawValue}
 use Rattle.bson_rawdoc.specs.ValueView.{raw_value}
 use Rattle.bson_rawdoc.specs.Walk.{Element, Walk, ended, then_walk, walk}
-use Rattle.bson_rawdoc.specs.declared.raw.Error.{Error}
+use Rattle.bson_faults.specs.declared.raw.Error.{Error}
 use Rattle.bson_rawdoc.specs.declared.value.RawBsonRef.{RawBsonRef}
 use Rattle.bson_shape.specs.Form.{Form, leaf, optional, Fields, no_fields, field}
 use Rattle.bson_shape.specs.declared.leaf.Leaf.{Leaf}

@@ -4,7 +4,7 @@ use Rattle.bson_kinds.specs.Text.{Bytes}
 use Rattle.bson_base.specs.Sound.{IsSound}
 use Rattle.bson_base.specs.Tree.{Tree, Trees, no_trees, tree, Pairs, document}
 use Rattle.bson_rawdoc.specs.Cut.{Cut, whole, with_piece, broken_at, cut}
-use Rattle.bson_rawdoc.specs.declared.raw.Error.{Error}
+use Rattle.bson_faults.specs.declared.raw.Error.{Error}
 use Rattle.bson_shape.specs.Makers.{IsShape}
 use Rattle.bson_infer_laws.specs.Inferred.{shape_of, joined_shapes, inferred}
 use Rattle.bson_infer_laws.specs.Join.{join}

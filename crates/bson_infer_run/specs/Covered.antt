@@ -6,7 +6,7 @@ use Rattle.bson_kinds.specs.Outcome.{◌>>=◌}
 use Rattle.bson_rawdoc.specs.DocumentTree.{tree_at}
 use Rattle.bson_rawdoc.specs.RawValue.{value_in}
 use Rattle.bson_rawdoc.specs.Walk.{Element}
-use Rattle.bson_rawdoc.specs.declared.raw.Error.{Error}
+use Rattle.bson_faults.specs.declared.raw.Error.{Error}
 use Rattle.bson_shape.specs.Form.{Form, leaf, Fields, field}
 use Rattle.bson_shape.specs.declared.leaf.Leaf.{Leaf}
 use Rattle.bson_infer_laws.specs.Above.{Above}

@@ -5,7 +5,7 @@ use Rattle.bson_kinds.specs.Text.{Bytes}
 use Rattle.bson_base.specs.Tree.{Tree, document, Pairs, Trees, no_trees, tree}
 use Rattle.bson_base.specs.declared.document.Document.{Document}
 use Rattle.bson_rawdoc.specs.Cut.{Cut, cut}
-use Rattle.bson_rawdoc.specs.declared.raw.Error.{Error}
+use Rattle.bson_faults.specs.declared.raw.Error.{Error}
 use Rattle.bson_shape.specs.Form.{Form}
 pub use Rattle.bson_infer_laws.specs.Encodings.{piece_pairs}
 use Rattle.bson_infer_laws.specs.Inferred.{shape_of, inferred}

@@ -3,8 +3,8 @@ use Rattle.std.specs.Prelude.{ℕ, ◌++◌, codes}
 use Rattle.std.specs.Fmt.{decimal}
 use Rattle.bson_kinds.specs.Text.{Utf8}
 use Rattle.bson_program.specs.ShapeWord.{newline}
-use Rattle.bson_rawdoc.specs.Printed.{printed_fault}
-use Rattle.bson_rawdoc.specs.declared.raw.Error.{Error}
+use Rattle.bson_faults.specs.Printed.{printed_fault}
+use Rattle.bson_faults.specs.declared.raw.Error.{Error}
 use Rattle.bson_infer_run.specs.declared.error.InferError.{InferError}
 use Rattle.bson_infer_run.specs.declared.error.InferError.TheVariants.{NotSound, NoMemory}
 

@@ -14,10 +14,10 @@ use Rattle.bson_kinds.specs.declared.element_type.ElementType.TheVariants.{Embed
 use Rattle.bson_rawdoc.specs.Node as node
 use Rattle.bson_rawdoc.specs.Envelope.{is_closed}
 use Rattle.bson_rawdoc.specs.Node.{of_bytes, from_input, Node, Nodes, too_deep, nodes_with, node_in, tree_node}
-use Rattle.bson_rawdoc.specs.Piece.{borrowed, made}
+use Rattle.bson_kinds.specs.Piece.{borrowed, made}
 use Rattle.bson_rawdoc.specs.Walk.{walk}
-use Rattle.bson_rawdoc.specs.declared.raw.Error.{Error}
-use Rattle.bson_rawdoc.specs.declared.raw.Error.TheVariants.{ValueUnclosed}
+use Rattle.bson_faults.specs.declared.raw.Error.{Error}
+use Rattle.bson_faults.specs.declared.raw.Error.TheVariants.{ValueUnclosed}
 use Rattle.bson_shape.specs.Form.{Form, leaf}
 use Rattle.bson_shape.specs.declared.leaf.Leaf.{Leaf}
 use Rattle.bson_shape.specs.declared.leaf.Leaf.TheVariants as leaves

@@ -14,7 +14,7 @@ use Rattle.bson_values.specs.Marked.{Marked, MarkedItems, MarkedEntries, content
 use Rattle.bson_values.specs.Cause.{binary_too_long}
 use Rattle.bson_values.specs.Refusal.{under, here, unwritable, unsigned_exceeds}
 use Rattle.bson_values.specs.Same.{same}
-use Rattle.bson_rawdoc.specs.Piece.{borrowed}
+use Rattle.bson_kinds.specs.Piece.{borrowed}
 use Rattle.bson_laws.specs.Judged.{Reading, judged}
 use Rattle.bson_laws.specs.ReadsLeaf.{put_entry, read_any, any_items, any_entries}
 use Rattle.bson_laws.specs.Spell.{spell, spell_items, spell_entries}

@@ -1,4 +1,5 @@
 pub mod Text
+pub mod Piece
 pub mod Kind
 pub mod Reserved
 pub mod Outcome

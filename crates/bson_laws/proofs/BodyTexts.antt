@@ -5,8 +5,8 @@ use Rattle.std.proofs.lemmas.Int.{ints}
 use Rattle.bson_kinds.specs.Outcome.{◌>>=◌, result_map}
 use Rattle.bson_kinds.specs.Text.{Utf8}
 use Rattle.bson_rawdoc.specs.Node.{Node, string, made_document, int64, ended, one, two}
-use Rattle.bson_rawdoc.specs.Piece.{made}
-use Rattle.bson_rawdoc.specs.declared.raw.Error.TheVariants.{NotUtf8}
+use Rattle.bson_kinds.specs.Piece.{made}
+use Rattle.bson_faults.specs.declared.raw.Error.TheVariants.{NotUtf8}
 use Rattle.bson_shape.specs.Form.{dropped, Form, leaf}
 use Rattle.bson_shape.specs.declared.leaf.Leaf.TheVariants.{U32}
 use Rattle.bson_values.specs.Cause.{out_of_range}

@@ -12,12 +12,12 @@ use Rattle.bson_rawdoc.specs.Envelope.{is_closed}
 use Rattle.bson_rawdoc.specs.Extent.{two_texts_in}
 use Rattle.bson_rawdoc.specs.Node.{Node, string, boolean, broken, too_deep, Nodes, opens, regular_expression, db_pointer, javascript_code, symbol, javascript_code_with_scope, binary_node, mended_if, or_broken, text_bytes, two_bytes, db_pointer_bytes, scoped_bytes, node_with, nodes_with, holding, closed_node, node_in, Whole, of_bytes, Sight, whole_at, one_level, tree_node, pair_nodes, tree_nodes}
 use Rattle.bson_rawdoc.specs.Numbers.{int32_in}
-use Rattle.bson_rawdoc.specs.Piece.{Piece, borrowed}
+use Rattle.bson_kinds.specs.Piece.{Piece, borrowed}
 use Rattle.bson_rawdoc.specs.RawValue.{boolean_of, binary_in}
 use Rattle.bson_rawdoc.specs.Walk.{Walk, walk}
 use Rattle.bson_rawdoc.specs.Walk as walks
-use Rattle.bson_rawdoc.specs.declared.raw.Error.{Error}
-use Rattle.bson_rawdoc.specs.declared.raw.Error.TheVariants.{ValueUnclosed}
+use Rattle.bson_faults.specs.declared.raw.Error.{Error}
+use Rattle.bson_faults.specs.declared.raw.Error.TheVariants.{ValueUnclosed}
 use Rattle.bson_laws.specs.Depths.{height, heights}
 use Rattle.bson_laws.specs.Unrolled.{max_steps}
 use Rattle.bson_laws.proofs.CutReads.{height_mended}

@@ -8,9 +8,9 @@ use Rattle.bson_kinds.specs.Text.{Bytes, Utf8}
 use Rattle.bson_kinds.specs.Outcome.{◌>>=◌, result_map, or_else}
 use Rattle.bson_kinds.proofs.Outcomes.{ok_is, map_ok, bind_ok}
 use Rattle.bson_rawdoc.specs.Node.{Whole, Node, double, string, document, array, bytes, boolean, null, int32, int64, extended, too_deep, Extended, binary, object_id, regular_expression, db_pointer, javascript_code, symbol, javascript_code_with_scope, Nodes, ended, faulty, then_node, text_fault, fault, extended_fault, piece, mended}
-use Rattle.bson_rawdoc.specs.Piece.{Piece, made}
-use Rattle.bson_rawdoc.specs.declared.raw.Error.{Error}
-use Rattle.bson_rawdoc.specs.declared.raw.Error.TheVariants.{NotUtf8}
+use Rattle.bson_kinds.specs.Piece.{Piece, made}
+use Rattle.bson_faults.specs.declared.raw.Error.{Error}
+use Rattle.bson_faults.specs.declared.raw.Error.TheVariants.{NotUtf8}
 use Rattle.bson_shape.specs.Form.{UnknownFields, dropped, denied, Form, leaf, optional, lossy, human_readable, by_mode, sequence, newtype, unit_structure, map, tuple, tuple_structure, structure, enumeration, reference, definitions, Fields, no_fields, field, Parts, no_parts, part, Content, unit_content, newtype_content, tuple_content, struct_content, Variants, no_variants, variant}
 use Rattle.bson_values.specs.Value as value
 use Rattle.bson_values.specs.Value.{u8, readable_newtype, Value, Entries, item, no_entries, entry, field_value}

@@ -6,7 +6,7 @@ use Rattle.std.specs.Str.Lossy.{utf8_lossy}
 use Rattle.bson_base.specs.Tree as tree
 use Rattle.bson_base.specs.Tree.{Tree, Pairs, no_pairs, pair, Trees, no_trees}
 use Rattle.bson_rawdoc.specs.Node.{Whole, of_opening, Sight, Node, string, document, array, bytes, extended, Extended, binary, undefined, object_id, regular_expression, db_pointer, javascript_code, symbol, javascript_code_with_scope, opened, opens, Nodes, ended, faulty, then_node, piece, mended, mended_text, mended_value, mended_nodes, tree_node, pair_nodes, tree_nodes}
-use Rattle.bson_rawdoc.specs.Piece.{Piece, made}
+use Rattle.bson_kinds.specs.Piece.{Piece, made}
 use Rattle.bson_laws.specs.RawFree.{IsRawFree, ArePairsRawFree, AreTreesRawFree}
 use Rattle.bson_laws.proofs.MendedTexts.{mended_whole, whole_mended}
 

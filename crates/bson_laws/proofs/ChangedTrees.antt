@@ -15,7 +15,7 @@ use Rattle.bson_kinds.specs.declared.element_type.ElementType.TheVariants as kin
 use Rattle.bson_kinds.proofs.Outcomes.{map_ok, bind_ok}
 use Rattle.bson_rawdoc.specs.Node as node
 use Rattle.bson_rawdoc.specs.Node.{Node, Extended, Nodes, ended, faulty, then_node, text_fault, fault, extended_fault, mended}
-use Rattle.bson_rawdoc.specs.Piece.{Piece, made}
+use Rattle.bson_kinds.specs.Piece.{Piece, made}
 use Rattle.bson_shape.specs.Form.{Form, leaf}
 use Rattle.bson_shape.specs.declared.leaf.Leaf.TheVariants as leaves
 use Rattle.bson_values.specs.Cause.{unknown_field}

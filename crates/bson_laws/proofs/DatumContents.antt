@@ -3,7 +3,7 @@ use Rattle.std.proofs.Common.{◌≡◌, zero, suc, refl, ap}
 use Rattle.std.specs.Prelude.{codes}
 use Rattle.bson_base.specs.Tree as tree
 use Rattle.bson_base.specs.Tree.{Tree, Pairs, no_pairs, pair, Trees, no_trees, kind}
-use Rattle.bson_rawdoc.specs.Piece.{made}
+use Rattle.bson_kinds.specs.Piece.{made}
 use Rattle.bson_values.specs.Value as value
 use Rattle.bson_values.specs.Value.{item, entry}
 use Rattle.bson_values.specs.Marked.{contents, item_contents, entry_contents}

@@ -8,8 +8,8 @@ use Rattle.bson_kinds.specs.declared.element_type.ElementType.TheVariants.{Embed
 use Rattle.bson_kinds.proofs.Outcomes.{map_ok, bind_ok}
 use Rattle.bson_rawdoc.specs.Envelope.{is_closed, envelope}
 use Rattle.bson_rawdoc.specs.Node.{Whole, of_bytes, Sight, from_input, Node, document, broken, Nodes, ended, faulty, then_node, node_in, mended}
-use Rattle.bson_rawdoc.specs.Piece.{made}
-use Rattle.bson_rawdoc.specs.declared.raw.Error as raw_error
+use Rattle.bson_kinds.specs.Piece.{made}
+use Rattle.bson_faults.specs.declared.raw.Error as raw_error
 use Rattle.bson_shape.specs.Form.{dropped, Form, leaf, optional, lossy, human_readable, by_mode, sequence, newtype, unit_structure, map, tuple, tuple_structure, structure, enumeration, reference, definitions, Content, unit_content, newtype_content, tuple_content, struct_content, Variants, no_variants, variant}
 use Rattle.bson_values.specs.Value as value
 use Rattle.bson_values.specs.Value.{Value, no_entries, kind_of, reserved_or_document}

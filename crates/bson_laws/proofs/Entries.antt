@@ -8,7 +8,7 @@ use Rattle.bson_base.specs.Sound.{ArePairsClean, Lacks}
 use Rattle.bson_base.specs.Tree.{Tree, Pairs, no_pairs, pair, pairs_depth}
 use Rattle.bson_kinds.proofs.Outcomes.{some_is, some_map, some_then}
 use Rattle.bson_rawdoc.specs.Node.{Sight, piece, Node, tree_node, pair_nodes}
-use Rattle.bson_rawdoc.specs.Piece.{Piece}
+use Rattle.bson_kinds.specs.Piece.{Piece}
 use Rattle.bson_values.specs.Value.{EntriesOf, ValueOf, Value, Entries, no_entries, entry}
 use Rattle.bson_values.specs.Marked.{Marked, MarkedEntries, contents, entry_contents}
 use Rattle.bson_values.specs.Same.{same}

@@ -6,8 +6,8 @@ use Rattle.bson_kinds.specs.declared.element_type.ElementType.TheVariants.{Embed
 use Rattle.bson_rawdoc.specs.Envelope.{is_closed, envelope}
 use Rattle.bson_rawdoc.specs.Node.{of_bytes, document, broken, nodes_with, node_in, inner_node}
 use Rattle.bson_rawdoc.specs.Walk.{walk}
-use Rattle.bson_rawdoc.specs.declared.raw.Error.{Error}
-use Rattle.bson_rawdoc.specs.declared.raw.Error.TheVariants.{ValueUnclosed}
+use Rattle.bson_faults.specs.declared.raw.Error.{Error}
+use Rattle.bson_faults.specs.declared.raw.Error.TheVariants.{ValueUnclosed}
 use Rattle.bson_shape.specs.Form.{Form}
 use Rattle.bson_values.specs.Cause.{raw}
 use Rattle.bson_values.specs.Marked.{Marked}

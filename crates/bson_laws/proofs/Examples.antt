@@ -8,8 +8,8 @@ use Rattle.bson_base.specs.Tree as tree
 use Rattle.bson_kinds.specs.declared.element_type.ElementType.TheVariants.{Boolean, ObjectId, EmbeddedDocument, Array, JavaScriptCodeWithScope}
 use Rattle.bson_base.specs.Made.{digits}
 use Rattle.bson_rawdoc.specs.Node.{of_opening, of_bytes, from_input, Node, string, document, made_document, array, bytes, boolean, null, int32, int64, broken, too_deep, Nodes, ended, faulty, then_node, mended, object_id, symbol, javascript_code_with_scope, decimal128, opens, tree_node}
-use Rattle.bson_rawdoc.specs.declared.raw.Error.{Error}
-use Rattle.bson_rawdoc.specs.Piece.{borrowed, made}
+use Rattle.bson_faults.specs.declared.raw.Error.{Error}
+use Rattle.bson_kinds.specs.Piece.{borrowed, made}
 use Rattle.bson_shape.specs.Form.{dropped, denied, Form, leaf, lossy, map, structure, enumeration, no_fields, field, unit_content, newtype_content, no_variants, variant}
 use Rattle.bson_shape.specs.declared.leaf.Leaf.TheVariants.{Any, I32, Str, String, Unit, RawDocument, RawArray, RawBson}
 use Rattle.bson_shape.specs.declared.leaf.Leaf.TheVariants as leaves

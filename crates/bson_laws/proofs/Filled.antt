@@ -9,7 +9,7 @@ use Rattle.bson_base.specs.Sound.{Lacks}
 use Rattle.bson_base.specs.Tree.{Tree, Pairs, no_pairs, pair}
 use Rattle.bson_kinds.proofs.Outcomes.{some_is, some_map, some_then}
 use Rattle.bson_rawdoc.specs.Node.{Sight, tree_node, pair_nodes}
-use Rattle.bson_rawdoc.specs.Piece.{made}
+use Rattle.bson_kinds.specs.Piece.{made}
 use Rattle.bson_shape.specs.Form.{UnknownFields, Form, Fields, no_fields, field}
 use Rattle.bson_values.specs.Value.{no_field_values, field_value}
 use Rattle.bson_values.specs.Marked.{Marked, MarkedFields}

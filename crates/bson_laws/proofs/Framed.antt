@@ -7,7 +7,7 @@ use Rattle.std.proofs.lemmas.Bool.Decides.{Decides-int_eq}
 use Rattle.bson_kinds.specs.Text.{Bytes}
 use Rattle.bson_rawdoc.specs.Envelope.{is_closed, envelope}
 use Rattle.bson_rawdoc.specs.Numbers.{int32_in}
-use Rattle.bson_rawdoc.specs.declared.raw.Error.TheVariants.{TooShort, LengthDiffers, NoTerminator}
+use Rattle.bson_faults.specs.declared.raw.Error.TheVariants.{TooShort, LengthDiffers, NoTerminator}
 use Rattle.bson_kinds.proofs.Apart.{no_ok, false_no}
 
 -- they pass the test of the envelope

@@ -21,7 +21,7 @@ use Rattle.bson_kinds.specs.declared.element_type.ElementType.TheVariants as kin
 use Rattle.bson_kinds.proofs.Outcomes.{some_is, some_map, some_then, ok_is, map_ok, bind_ok}
 use Rattle.bson_rawdoc.specs.Node as node
 use Rattle.bson_rawdoc.specs.Node.{Sight, Node, Extended, Nodes, ended, faulty, then_node, fault, extended_fault}
-use Rattle.bson_rawdoc.specs.Piece.{Piece, made}
+use Rattle.bson_kinds.specs.Piece.{Piece, made}
 use Rattle.bson_shape.specs.Form.{dropped, Form, leaf, structure, Fields, no_fields, field}
 use Rattle.bson_shape.specs.declared.leaf.Leaf.{Leaf}
 use Rattle.bson_shape.specs.declared.leaf.Leaf.TheVariants as leaves

@@ -10,7 +10,7 @@ use Rattle.bson_base.specs.Tree.{Tree, kind}
 use Rattle.bson_kinds.proofs.Outcomes.{ok_is, map_ok}
 use Rattle.bson_rawdoc.specs.Node as node
 use Rattle.bson_rawdoc.specs.Node.{of_bytes, Whole, Sight, Node, Extended, fault, extended_fault}
-use Rattle.bson_rawdoc.specs.Piece.{Piece, borrowed}
+use Rattle.bson_kinds.specs.Piece.{Piece, borrowed}
 use Rattle.bson_values.specs.Marked.{Marked, contents}
 use Rattle.bson_values.specs.Refusal.{under}
 use Rattle.bson_values.specs.Value as value

@@ -8,11 +8,11 @@ use Rattle.bson_base.specs.Sound.{IsClean}
 use Rattle.bson_base.specs.Tree.{Tree, null, string, document, array, binary, regular_expression, db_pointer, javascript_code, symbol, javascript_code_with_scope, raw, Pairs, Trees, depth}
 use Rattle.bson_kinds.specs.declared.element_type.ElementType.TheVariants.{EmbeddedDocument, Array, JavaScriptCodeWithScope}
 use Rattle.bson_kinds.specs.declared.element_type.ElementType.{ElementType}
-use Rattle.bson_rawdoc.specs.declared.raw.Error.{Error}
-use Rattle.bson_rawdoc.specs.declared.raw.Error.TheVariants.{NotUtf8, ValueUnclosed}
+use Rattle.bson_faults.specs.declared.raw.Error.{Error}
+use Rattle.bson_faults.specs.declared.raw.Error.TheVariants.{NotUtf8, ValueUnclosed}
 use Rattle.bson_rawdoc.specs.Envelope.{is_closed}
 use Rattle.bson_rawdoc.specs.Numbers.{int32_in}
-use Rattle.bson_rawdoc.specs.Piece.{Piece}
+use Rattle.bson_kinds.specs.Piece.{Piece}
 use Rattle.bson_rawdoc.specs.Walk.{walk}
 use Rattle.bson_rawdoc.specs.Node as node
 use Rattle.bson_rawdoc.specs.Node.{of_bytes, Whole, Node, Nodes, broken, too_deep, opens, or_broken, scoped_bytes, nodes_with, closed_node, node_in, Sight, text_fault, fault, piece, whole_at, one_level, mended_if, tree_node, pair_nodes, tree_nodes}

@@ -4,9 +4,9 @@ use Rattle.std.specs.Str.{is_utf8}
 use Rattle.bson_kinds.specs.Outcome.{or_else}
 use Rattle.bson_rawdoc.specs.Node as node
 use Rattle.bson_rawdoc.specs.Node.{Node}
-use Rattle.bson_rawdoc.specs.Piece.{Piece}
-use Rattle.bson_rawdoc.specs.declared.raw.Error.{Error}
-use Rattle.bson_rawdoc.specs.declared.raw.Error.TheVariants.{NotUtf8}
+use Rattle.bson_kinds.specs.Piece.{Piece}
+use Rattle.bson_faults.specs.declared.raw.Error.{Error}
+use Rattle.bson_faults.specs.declared.raw.Error.TheVariants.{NotUtf8}
 use Rattle.bson_laws.specs.Judged.{faultless, judged}
 use Rattle.bson_kinds.proofs.Apart.{no_ok, some_no}
 

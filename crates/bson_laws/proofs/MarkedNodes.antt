@@ -12,12 +12,12 @@ use Rattle.bson_rawdoc.specs.Extent.{two_texts_in}
 use Rattle.bson_rawdoc.specs.Node as node
 use Rattle.bson_rawdoc.specs.Node.{of_bytes, Node, Nodes, Extended, extended, regular_expression, db_pointer, javascript_code, symbol, javascript_code_with_scope, opens, opened, mended, mended_text, mended_value, mended_nodes, binary_node, or_broken, text_bytes, two_bytes, db_pointer_bytes, scoped_bytes, node_with, nodes_with, holding, closed_node, node_in, inner_node, value_node}
 use Rattle.bson_rawdoc.specs.Numbers.{int32_in}
-use Rattle.bson_rawdoc.specs.Piece.{Piece, borrowed, made}
+use Rattle.bson_kinds.specs.Piece.{Piece, borrowed, made}
 use Rattle.bson_rawdoc.specs.RawValue as raw
 use Rattle.bson_rawdoc.specs.RawValue.{RawValue, boolean_of, binary_in}
 use Rattle.bson_rawdoc.specs.Walk.{Walk, ended, faulty, then_walk, walk}
-use Rattle.bson_rawdoc.specs.declared.raw.Error.{Error}
-use Rattle.bson_rawdoc.specs.declared.raw.Error.TheVariants.{ScopeTotal, TextUnclosed, ValueUnclosed}
+use Rattle.bson_faults.specs.declared.raw.Error.{Error}
+use Rattle.bson_faults.specs.declared.raw.Error.TheVariants.{ScopeTotal, TextUnclosed, ValueUnclosed}
 use Rattle.bson_laws.proofs.ChangedNodes.{changed, changed_value, changed_nodes, mended_input, marking, opened_marked}
 use Rattle.bson_kinds.proofs.Apart.{no_ok}
 

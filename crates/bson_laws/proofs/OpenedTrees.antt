@@ -11,7 +11,7 @@ use Rattle.bson_base.specs.Tree.{Tree, Pairs, no_pairs, depth}
 use Rattle.bson_kinds.specs.declared.element_type.ElementType.TheVariants.{EmbeddedDocument}
 use Rattle.bson_rawdoc.specs.Node as node
 use Rattle.bson_rawdoc.specs.Node.{of_opening, Sight, Extended, object_id, date_time, regular_expression, db_pointer, javascript_code, symbol, javascript_code_with_scope, timestamp, decimal128, opens, one_level, tree_node, pair_nodes}
-use Rattle.bson_rawdoc.specs.Piece.{made}
+use Rattle.bson_kinds.specs.Piece.{made}
 use Rattle.bson_values.specs.Wrapper.{of_key}
 use Rattle.bson_laws.specs.Datum.{sorted_tree}
 use Rattle.bson_laws.specs.RawFree.{ArePairsRawFree}

@@ -14,9 +14,9 @@ use Rattle.bson_kinds.specs.declared.element_type.ElementType.TheVariants.{Embed
 use Rattle.bson_kinds.proofs.Outcomes.{ok_is}
 use Rattle.bson_rawdoc.specs.Node as node
 use Rattle.bson_rawdoc.specs.Node.{of_bytes, Sight, Node, Nodes, opens, text_fault, mended, mended_text, mended_nodes, or_broken, nodes_with, closed_node, node_in, piece, mended_if, tree_node}
-use Rattle.bson_rawdoc.specs.Piece.{Piece, borrowed, made}
+use Rattle.bson_kinds.specs.Piece.{Piece, borrowed, made}
 use Rattle.bson_rawdoc.specs.Walk.{walk}
-use Rattle.bson_rawdoc.specs.declared.raw.Error.TheVariants.{NotUtf8, ValueUnclosed}
+use Rattle.bson_faults.specs.declared.raw.Error.TheVariants.{NotUtf8, ValueUnclosed}
 use Rattle.bson_values.specs.Marked.{Marked, contents}
 use Rattle.bson_values.specs.Value as value
 use Rattle.bson_values.specs.Value.{i32, i64, u8, Value}

@@ -14,8 +14,8 @@ use Rattle.bson_base.specs.Tree.{Tree, depth}
 use Rattle.bson_kinds.specs.declared.element_type.ElementType.TheVariants.{EmbeddedDocument}
 use Rattle.bson_base.proofs.WrittenTexts.{digits_read, integer_read, base64_read}
 use Rattle.bson_rawdoc.specs.Node.{Sight, Node, string, made_document, int64, extended, Extended, binary, undefined, object_id, date_time, regular_expression, db_pointer, javascript_code, symbol, javascript_code_with_scope, timestamp, decimal128, max_key, min_key, Nodes, ended, one, made_text, text_fault, fault, opened, opens, piece, whole_at, one_level, tree_node, pair_nodes}
-use Rattle.bson_rawdoc.specs.Piece.{Piece, made}
-use Rattle.bson_rawdoc.specs.declared.raw.Error.{Error}
+use Rattle.bson_kinds.specs.Piece.{Piece, made}
+use Rattle.bson_faults.specs.declared.raw.Error.{Error}
 use Rattle.bson_shape.specs.Form.{leaf}
 use Rattle.bson_shape.specs.declared.leaf.Leaf.TheVariants.{U32}
 use Rattle.bson_values.specs.Marked.{Marked, contents}

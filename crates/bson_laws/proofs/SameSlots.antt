@@ -4,7 +4,7 @@ use Rattle.std.specs.Str.{bytes_eq}
 use Rattle.bson_kinds.specs.Text.{Utf8}
 use Rattle.bson_kinds.specs.Outcome.{◌>>=◌, result_map}
 use Rattle.bson_rawdoc.specs.Node.{Node, document, array, extended, Nodes, ended, faulty, then_node}
-use Rattle.bson_rawdoc.specs.Piece.{made}
+use Rattle.bson_kinds.specs.Piece.{made}
 use Rattle.bson_shape.specs.Form.{UnknownFields, dropped, denied}
 use Rattle.bson_values.specs.Value.{field_value}
 use Rattle.bson_values.specs.Marked.{Marked}

@@ -6,9 +6,9 @@ use Rattle.std.specs.Prelude.{FitsSigned}
 use Rattle.bson_kinds.specs.Outcome.{◌>>=◌}
 use Rattle.bson_kinds.specs.Text.{AreBytes, has_zero}
 use Rattle.bson_kinds.proofs.Outcomes.{ok_is, bind_ok}
-use Rattle.bson_rawdoc.specs.Piece.{Piece}
+use Rattle.bson_kinds.specs.Piece.{Piece}
 use Rattle.bson_rawdoc.specs.Node.{of_bytes, Whole, Sight, Node, string, double, bytes, binary, document, array, int32, int64, extended, too_deep, Extended, object_id, date_time, regular_expression, db_pointer, javascript_code, symbol, javascript_code_with_scope, timestamp, decimal128, Nodes, ended, faulty, then_node, fault}
-use Rattle.bson_rawdoc.specs.declared.raw.Error.{Error}
+use Rattle.bson_faults.specs.declared.raw.Error.{Error}
 use Rattle.bson_values.specs.Cause.{Cause}
 use Rattle.bson_laws.specs.Judged.{Reading, refused, with_level, faultless, judged}
 use Rattle.bson_laws.specs.Taken.{owned_under_mark, document_of, array_of}

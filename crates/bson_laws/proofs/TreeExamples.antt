@@ -7,7 +7,7 @@ use Rattle.bson_base.specs.Tree as tree
 use Rattle.bson_base.specs.Tree.{Tree, le32, le64, enc}
 use Rattle.bson_kinds.specs.declared.element_type.ElementType.TheVariants.{EmbeddedDocument, Array, Null, ObjectId, Int32}
 use Rattle.bson_rawdoc.specs.Node.{Node, string, null, boolean, int32, made_document, too_deep, ended, then_node}
-use Rattle.bson_rawdoc.specs.Piece.{made}
+use Rattle.bson_kinds.specs.Piece.{made}
 use Rattle.bson_shape.specs.Form.{dropped, Form, leaf, lossy, map, structure, enumeration, Parts, no_parts, no_fields, field, unit_content, tuple_content, struct_content, no_variants, variant}
 use Rattle.bson_shape.specs.declared.leaf.Leaf.TheVariants as leaves
 use Rattle.bson_shape.proofs.TextStates.{text-one}

@@ -12,7 +12,7 @@ use Rattle.bson_base.specs.Tree as tree
 use Rattle.bson_base.specs.Tree.{Tree, Pairs, no_pairs, pair, Trees, no_trees, kind, depth, pairs_depth, trees_depth}
 use Rattle.bson_kinds.proofs.Outcomes.{some_is}
 use Rattle.bson_rawdoc.specs.Node.{Sight, fault, tree_node, pair_nodes, tree_nodes}
-use Rattle.bson_rawdoc.specs.Piece.{made}
+use Rattle.bson_kinds.specs.Piece.{made}
 use Rattle.bson_values.specs.Cause.{wrong_kind, invalid_length}
 use Rattle.bson_values.specs.Marked.{contents}
 use Rattle.bson_values.specs.Refusal.{under, under_index}

@@ -11,7 +11,7 @@ use Rattle.bson_base.specs.Tree.{Tree, Pairs, no_pairs, pair, Trees, no_trees, d
 use Rattle.bson_kinds.proofs.Outcomes.{some_is, some_then}
 use Rattle.bson_rawdoc.specs.Node as for_nodes
 use Rattle.bson_rawdoc.specs.Node.{Node, Extended, binary, undefined, object_id, date_time, regular_expression, db_pointer, javascript_code, symbol, javascript_code_with_scope, timestamp, decimal128, max_key, min_key, Sight, tree_node, pair_nodes, tree_nodes}
-use Rattle.bson_rawdoc.specs.Piece.{Piece, made}
+use Rattle.bson_kinds.specs.Piece.{Piece, made}
 use Rattle.bson_laws.specs.RawFree.{IsRawFree, ArePairsRawFree, AreTreesRawFree}
 use Rattle.bson_laws.specs.Unmarked.{with_document, unmarked, unmarked_pairs, unmarked_trees, AreOpenedAlike}
 use Rattle.bson_kinds.proofs.Apart.{no_some}

@@ -8,7 +8,7 @@ use Rattle.bson_base.specs.Tree.{Tree, double, string, document, array, binary, 
 use Rattle.bson_kinds.proofs.Outcomes.{some_is, some_map}
 use Rattle.bson_rawdoc.specs.Node as node
 use Rattle.bson_rawdoc.specs.Node.{Sight, piece, Node, Nodes, tree_node, pair_nodes, tree_nodes}
-use Rattle.bson_rawdoc.specs.Piece.{Piece}
+use Rattle.bson_kinds.specs.Piece.{Piece}
 use Rattle.bson_values.specs.Value as value
 use Rattle.bson_values.specs.Value.{i32, i64, Value, item, no_entries, entry}
 use Rattle.bson_values.specs.Marked.{Marked, MarkedEntries, contents}

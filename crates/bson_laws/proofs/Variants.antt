@@ -8,7 +8,7 @@ use Rattle.bson_values.specs.Value as value
 use Rattle.bson_values.specs.Value.{Value, Items, FieldValues}
 use Rattle.bson_laws.specs.Variants.{content_of}
 use Rattle.bson_laws.specs.Views.{named_unit}
-use Rattle.bson_rawdoc.specs.Piece.{made}
+use Rattle.bson_kinds.specs.Piece.{made}
 use Rattle.bson_laws.specs.Containers.{unit_of}
 use Rattle.bson_laws.specs.Fits.{Fits, PartsFit, FieldsFit}
 use Rattle.bson_laws.proofs.Fitted.{bytes_same}

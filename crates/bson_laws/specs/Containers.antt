@@ -4,7 +4,7 @@ use Rattle.bson_kinds.specs.Text.{Utf8}
 use Rattle.bson_kinds.specs.Outcome.{◌>>=◌, result_map}
 use Rattle.bson_kinds.specs.declared.element_type.ElementType.TheVariants.{String}
 use Rattle.bson_rawdoc.specs.Node.{Node, string, null, Nodes, ended, faulty, then_node}
-use Rattle.bson_rawdoc.specs.Piece.{Piece, made}
+use Rattle.bson_kinds.specs.Piece.{Piece, made}
 use Rattle.bson_shape.specs.Form.{Form, leaf, enumeration, Content, unit_content, Variants}
 use Rattle.bson_values.specs.Value as value
 use Rattle.bson_values.specs.Value.{no_items, item}

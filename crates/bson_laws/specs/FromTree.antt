@@ -4,7 +4,7 @@ use Rattle.bson_kinds.specs.Text.{Utf8}
 use Rattle.bson_kinds.specs.Outcome.{◌>>=◌}
 use Rattle.bson_kinds.specs.declared.element_type.ElementType.TheVariants as kinds
 use Rattle.bson_rawdoc.specs.Node.{Node, string, document, Nodes, ended, faulty, then_node, kind_of, mended}
-use Rattle.bson_rawdoc.specs.Piece.{Piece, made}
+use Rattle.bson_kinds.specs.Piece.{Piece, made}
 use Rattle.bson_shape.specs.Form.{dropped, Content, unit_content, Variants}
 use Rattle.bson_values.specs.Value as value
 use Rattle.bson_values.specs.Marked.{Marked, MarkedFields}

@@ -3,8 +3,8 @@ use Rattle.std.specs.Prelude.{ℕ, suc, Option, Some, None, Result, Ok, Err, cod
 use Rattle.bson_kinds.specs.Text.{Utf8}
 use Rattle.bson_kinds.specs.Outcome.{◌>>=◌}
 use Rattle.bson_rawdoc.specs.Node.{Node, document, array, extended, too_deep, Extended, javascript_code_with_scope, Nodes, ended, faulty, then_node, fault}
-use Rattle.bson_rawdoc.specs.Piece.{Piece}
-use Rattle.bson_rawdoc.specs.declared.raw.Error as raw_error
+use Rattle.bson_kinds.specs.Piece.{Piece}
+use Rattle.bson_faults.specs.declared.raw.Error as raw_error
 use Rattle.bson_values.specs.Cause as causes
 use Rattle.bson_values.specs.Cause.{Cause, raw}
 use Rattle.bson_values.specs.Refusal.{Segment, at_key, at_index, ReadFault, unreadable, Refusal, here, inside, under}

@@ -4,7 +4,7 @@ use Rattle.std.specs.Str.{bytes_eq}
 use Rattle.bson_kinds.specs.Text.{Utf8}
 use Rattle.bson_kinds.specs.Outcome.{◌>>=◌, result_map}
 use Rattle.bson_rawdoc.specs.Node.{Node, Nodes}
-use Rattle.bson_rawdoc.specs.Piece.{made}
+use Rattle.bson_kinds.specs.Piece.{made}
 use Rattle.bson_shape.specs.Form.{Form, leaf, optional, lossy, human_readable, by_mode, sequence, newtype, unit_structure, map, tuple, tuple_structure, structure, enumeration, reference, definitions, Fields, no_fields, field, Parts, no_parts, part, Content, unit_content, newtype_content, tuple_content, struct_content, Variants, no_variants, variant}
 use Rattle.bson_values.specs.Value as value
 use Rattle.bson_values.specs.Value.{readable_newtype, no_items, item, no_entries}

@@ -9,7 +9,7 @@ use Rattle.bson_base.specs.Tree.{Tree, kind}
 use Rattle.bson_kinds.specs.declared.element_type.ElementType.{ElementType}
 use Rattle.bson_kinds.specs.declared.element_type.ElementType.TheVariants as kinds
 use Rattle.bson_rawdoc.specs.Node.{Node, string, document, bytes, extended, binary, object_id, kind_of}
-use Rattle.bson_rawdoc.specs.Piece.{made}
+use Rattle.bson_kinds.specs.Piece.{made}
 use Rattle.bson_values.specs.Cause as cause
 use Rattle.bson_values.specs.Cause.{invalid_type, invalid_length, bad_body, wrong_kind}
 use Rattle.bson_values.specs.Marked.{Marked}

@@ -4,7 +4,7 @@ use Rattle.bson_base.specs.Made.{digits}
 use Rattle.bson_kinds.specs.Outcome.{◌>>=◌, result_map}
 use Rattle.bson_base.specs.Tree as tree
 use Rattle.bson_rawdoc.specs.Node.{of_bytes, Whole, Node, double, string, document, array, bytes, boolean, null, int32, int64, extended, Extended, binary, undefined, object_id, date_time, regular_expression, db_pointer, javascript_code, symbol, javascript_code_with_scope, timestamp, decimal128, max_key, min_key, kind_of}
-use Rattle.bson_rawdoc.specs.Piece.{Piece, borrowed, made}
+use Rattle.bson_kinds.specs.Piece.{Piece, borrowed, made}
 use Rattle.bson_values.specs.Cause.{invalid_type, not_borrowed}
 use Rattle.bson_values.specs.Marked.{Marked}
 use Rattle.bson_values.specs.Refusal.{under}

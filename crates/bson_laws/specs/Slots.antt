@@ -5,7 +5,7 @@ use Rattle.bson_kinds.specs.Text.{Utf8}
 use Rattle.bson_kinds.specs.Outcome.{◌>>=◌, result_map}
 use Rattle.bson_kinds.specs.declared.element_type.ElementType.TheVariants.{Array}
 use Rattle.bson_rawdoc.specs.Node.{Node, array, Nodes, ended, faulty, then_node}
-use Rattle.bson_rawdoc.specs.Piece.{made}
+use Rattle.bson_kinds.specs.Piece.{made}
 use Rattle.bson_shape.specs.Form.{UnknownFields, dropped, denied, Form, by_mode}
 use Rattle.bson_values.specs.Value.{ValueOf, no_field_values, field_value}
 use Rattle.bson_values.specs.Marked.{Marked, MarkedFields}

@@ -4,7 +4,7 @@ use Rattle.std.specs.Str.{is_utf8, chars}
 use Rattle.bson_kinds.specs.Text.{Bytes}
 use Rattle.bson_kinds.specs.Outcome.{◌>>=◌, result_map}
 use Rattle.bson_rawdoc.specs.Node.{Node, double, string, document, array, bytes, boolean, null, int32, int64, extended, object_id, Nodes, ended, faulty, then_node, kind_of}
-use Rattle.bson_rawdoc.specs.Piece.{Piece, made}
+use Rattle.bson_kinds.specs.Piece.{Piece, made}
 use Rattle.bson_values.specs.Value as value
 use Rattle.bson_values.specs.Value.{IntegerType, u8, in_range}
 use Rattle.bson_values.specs.Marked.{Marked}

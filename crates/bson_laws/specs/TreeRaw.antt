@@ -7,7 +7,7 @@ use Rattle.bson_base.specs.Tree as tree
 use Rattle.bson_base.specs.Tree.{Tree, Pairs, no_pairs, kind, enc}
 use Rattle.bson_kinds.specs.declared.element_type.ElementType.{ElementType}
 use Rattle.bson_rawdoc.specs.Node.{Whole, of_tree, of_opening, Node, string, document, array, bytes, boolean, int32, int64, extended, Nodes, ended, faulty, then_node, javascript_code_with_scope, from_memory, tree_node, kind_of}
-use Rattle.bson_rawdoc.specs.Piece.{Piece, made}
+use Rattle.bson_kinds.specs.Piece.{Piece, made}
 use Rattle.bson_values.specs.Cause.{raw, invalid_type, not_borrowed}
 use Rattle.bson_values.specs.Marked.{Marked}
 use Rattle.bson_values.specs.Refusal.{under}

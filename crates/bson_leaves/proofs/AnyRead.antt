@@ -6,7 +6,7 @@ use Rattle.bson_kinds.proofs.Outcomes.{bind_ok}
 use Rattle.bson_kinds.specs.declared.element_type.ElementType.{ElementType}
 use Rattle.bson_kinds.specs.declared.element_type.ElementType.TheVariants as kinds
 use Rattle.bson_rawdoc.specs.Node.{of_bytes, Node, document, array, extended, Nodes, ended, faulty, then_node, nodes_with, node_in, inner_node, value_node}
-use Rattle.bson_rawdoc.specs.Piece.{Piece, borrowed}
+use Rattle.bson_kinds.specs.Piece.{Piece, borrowed}
 use Rattle.bson_rawdoc.specs.RawValue as raws
 use Rattle.bson_rawdoc.specs.RawValue.{RawValue, value_in}
 use Rattle.bson_rawdoc.specs.Walk.{Element, Walk, then_walk, walk}

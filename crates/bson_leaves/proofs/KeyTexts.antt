@@ -6,7 +6,7 @@ use Rattle.std.proofs.lemmas.Bool.{false≢true}
 use Rattle.std.proofs.lemmas.Str.{encodes-chars}
 use Rattle.bson_kinds.specs.Text.{Utf8}
 use Rattle.bson_kinds.specs.Outcome.{result_map}
-use Rattle.bson_rawdoc.specs.Piece.{Piece}
+use Rattle.bson_kinds.specs.Piece.{Piece}
 use Rattle.bson_shape.specs.Form.{Form, leaf, enumeration, Content, unit_content}
 use Rattle.bson_shape.specs.Leaf.{is_text}
 use Rattle.bson_shape.specs.Makers.{is_text_key}

@@ -1,7 +1,7 @@
 -- The keys that texts are. Source: serde's data model.
 use Rattle.bson_kinds.specs.Text.{Utf8}
 use Rattle.bson_kinds.specs.Outcome.{result_map}
-use Rattle.bson_rawdoc.specs.Piece.{borrowed}
+use Rattle.bson_kinds.specs.Piece.{borrowed}
 use Rattle.bson_shape.specs.Form.{Form}
 use Rattle.bson_values.specs.Marked.{contents}
 use Rattle.bson_values.specs.Value.{Value}

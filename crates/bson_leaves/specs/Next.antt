@@ -1,7 +1,7 @@
 -- A step over the elements of a document or an array of the input. Source: bsonspec.org, version 1.1, `e_list`.
 use Rattle.std.specs.Prelude.{◌≡◌, Option, Some, None, Result, Ok, Err}
 use Rattle.bson_rawdoc.specs.Walk.{Element, Walk, ended, faulty, then_walk}
-use Rattle.bson_rawdoc.specs.declared.raw.Error.{Error}
+use Rattle.bson_faults.specs.declared.raw.Error.{Error}
 use Rattle.bson_values.specs.Cause.{raw}
 use Rattle.bson_values.specs.ErrorView.{read_fault}
 use Rattle.bson_values.specs.Stop.{stop_view}

@@ -3,7 +3,7 @@ ghost use Rattle.bson_shape.specs.Form as form;
 ghost use Rattle.bson_shape.specs.Leaf.{is_text};
 ghost use Rattle.bson_shape.specs.Makers.{is_text_key};
 ghost use Rattle.bson_shape.specs.ShapeView.{form_view};
-ghost use Rattle.bson_rawdoc.specs.Piece.{made};
+ghost use Rattle.bson_kinds.specs.Piece.{made};
 ghost use Rattle.bson_values.specs.Marked.{contents};
 ghost use Rattle.bson_datum.specs.MarkedView.{marked};
 ghost use Rattle.bson_values.specs.Value as value;

@@ -15,13 +15,13 @@ use Rattle.bson_rawdoc.specs.Envelope.{is_closed, inside}
 use Rattle.bson_rawdoc.specs.Extent.{two_texts_in}
 use Rattle.bson_rawdoc.specs.Node.{of_tree, of_bytes, Node, string, boolean, broken, too_deep, extended, Extended, regular_expression, db_pointer, javascript_code, symbol, javascript_code_with_scope, text_fault, fault, from_memory, one_level, tree_node, pair_nodes, extended_fault, opens, binary_node, or_broken, text_bytes, two_bytes, db_pointer_bytes, scoped_bytes, node_with, nodes_with, holding, closed_node, node_in, inner_node, value_node, mended}
 use Rattle.bson_rawdoc.specs.Numbers.{int32_in}
-use Rattle.bson_rawdoc.specs.Piece.{Piece, borrowed, made}
+use Rattle.bson_kinds.specs.Piece.{Piece, borrowed, made}
 use Rattle.bson_rawdoc.specs.RawValue as raw
 use Rattle.bson_rawdoc.specs.RawValue.{RawValue, boolean_of, binary_in, scoped_parts}
 use Rattle.bson_rawdoc.specs.Unjudged.{text_in, regex_of, db_pointer_in, code_and_scope, unjudged_in}
 use Rattle.bson_rawdoc.specs.Walk.{walk}
-use Rattle.bson_rawdoc.specs.declared.raw.Error.{Error}
-use Rattle.bson_rawdoc.specs.declared.raw.Error.TheVariants.{NotUtf8, TextUnclosed, ScopeTotal, ValueUnclosed}
+use Rattle.bson_faults.specs.declared.raw.Error.{Error}
+use Rattle.bson_faults.specs.declared.raw.Error.TheVariants.{NotUtf8, TextUnclosed, ScopeTotal, ValueUnclosed}
 use Rattle.bson_values.specs.Cause as cause
 use Rattle.bson_laws.specs.Judged.{Reading, judged, with_level, faultless, refused}
 use Rattle.bson_laws.proofs.Mended.{other_fault, mended_fault}

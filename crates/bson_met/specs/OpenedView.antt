@@ -9,7 +9,7 @@ use Rattle.bson_rawdoc.specs.DocumentView.{document_bytes}
 use Rattle.bson_base.specs.Made.{digits, number_text, base64_text}
 use Rattle.bson_rawdoc.specs.Node as node
 use Rattle.bson_rawdoc.specs.Node.{of_tree, from_memory, Node, Nodes, one, two, made_document, made_text, opened, inner_node, one_level, pair_nodes}
-use Rattle.bson_rawdoc.specs.Piece.{made}
+use Rattle.bson_kinds.specs.Piece.{made}
 use Rattle.bson_met.specs.Seen.{seen}
 use Rattle.bson_met.specs.PieceView.{met_bytes, met_text}
 use Rattle.bson_met.specs.declared.opened.Names.{Names}

@@ -1,6 +1,6 @@
 ghost use Rattle.std.specs.Prelude.{◌≡◌, true, IfOk};
 ghost use Rattle.bson_rawdoc.specs.Node as node;
-ghost use Rattle.bson_rawdoc.specs.Piece.{borrowed};
+ghost use Rattle.bson_kinds.specs.Piece.{borrowed};
 ghost use Rattle.bson_values.specs.Pieces.{bytes_piece};
 ghost use Rattle.bson_laws.specs.Taken.{borrow, owned_under_mark};
 ghost use Rattle.bson_met.specs.Gives.{Reaches};

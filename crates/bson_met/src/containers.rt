@@ -7,7 +7,7 @@ ghost use Rattle.bson_kinds.specs.declared.element_type.ElementType.TheVariants 
 ghost use Rattle.bson_rawdoc.specs.DocumentView.{array_bytes, document_bytes};
 ghost use Rattle.bson_rawdoc.specs.Node as node;
 ghost use Rattle.bson_rawdoc.specs.Node.{of_tree, from_memory, inner_node, made_document, one_level, pair_nodes, tree_nodes};
-ghost use Rattle.bson_rawdoc.specs.Piece.{borrowed};
+ghost use Rattle.bson_kinds.specs.Piece.{borrowed};
 ghost use Rattle.bson_laws.specs.Judged.{with_level};
 ghost use Rattle.bson_laws.specs.ReadsRaw.{slice_of};
 ghost use Rattle.bson_laws.specs.TreeRaw.{held_whole};

@@ -7,7 +7,7 @@ ghost use Rattle.bson_kinds.specs.declared.element_type.ElementType.TheVariants 
 ghost use Rattle.bson_rawdoc.specs.DocumentView.{document_bytes};
 ghost use Rattle.bson_rawdoc.specs.Node.{of_tree, from_memory, node_in, inner_node, value_node, one_level, pair_nodes, tree_node};
 ghost use Rattle.bson_rawdoc.specs.JsonKinds.{is_of_json};
-ghost use Rattle.bson_rawdoc.specs.Piece.{borrowed, made};
+ghost use Rattle.bson_kinds.specs.Piece.{borrowed, made};
 ghost use Rattle.bson_rawdoc.specs.RawValue.{kind_of, value_in};
 ghost use Rattle.bson_rawdoc.specs.ValueView.{raw_value};
 ghost use Rattle.bson_laws.specs.Judged.{judged, with_level};

@@ -1,7 +1,7 @@
 ghost use Rattle.std.specs.Prelude.{if◌then◌else◌, ◌≡◌, true, string_bytes, IfOk};
 ghost use Rattle.std.specs.Str.{is_utf8};
 ghost use Rattle.bson_rawdoc.specs.Node.{mended_text};
-ghost use Rattle.bson_rawdoc.specs.Piece.{borrowed, made};
+ghost use Rattle.bson_kinds.specs.Piece.{borrowed, made};
 ghost use Rattle.bson_values.specs.Pieces.{text_piece};
 ghost use Rattle.bson_laws.specs.Taken.{borrow};
 ghost use Rattle.bson_met.specs.Gives.{Reaches};

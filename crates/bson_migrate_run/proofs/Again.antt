@@ -12,8 +12,8 @@ use Rattle.bson_rawdoc.specs.Cut.{Cut, with_piece, length_within, piece_length, 
 use Rattle.bson_rawdoc.specs.Envelope.{envelope, is_closed}
 use Rattle.bson_rawdoc.specs.Extent.{extent}
 use Rattle.bson_rawdoc.specs.Numbers.{int32_in}
-use Rattle.bson_rawdoc.specs.declared.raw.Error.{Error}
-use Rattle.bson_rawdoc.specs.declared.raw.Error.TheVariants.{TooShort, LengthDiffers, NoTerminator}
+use Rattle.bson_faults.specs.declared.raw.Error.{Error}
+use Rattle.bson_faults.specs.declared.raw.Error.TheVariants.{TooShort, LengthDiffers, NoTerminator}
 use Rattle.bson_rawdoc.proofs.Extents.{announced_found, number_within}
 use Rattle.bson_rawdoc.proofs.Pieces.{cut-nil, cut_more}
 use Rattle.bson_shape.specs.Form.{Form}

@@ -5,7 +5,7 @@ ghost use Rattle.bson_base.specs.Tree.{element};
 ghost use Rattle.bson_kinds.specs.Reserved.{reserved_kind};
 ghost use Rattle.bson_kinds.specs.declared.element_type.ElementType.TheVariants as kinds;
 ghost use Rattle.bson_rawdoc.specs.Node.{inner_node, node_in, nodes_with};
-ghost use Rattle.bson_rawdoc.specs.Piece.{Piece};
+ghost use Rattle.bson_kinds.specs.Piece.{Piece};
 ghost use Rattle.bson_rawdoc.specs.Walk.{walk_elements};
 ghost use Rattle.bson_shape.specs.Form.{structure};
 ghost use Rattle.bson_shape.specs.Makers.{AreDistinct};

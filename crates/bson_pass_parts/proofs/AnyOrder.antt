@@ -9,7 +9,7 @@ use Rattle.bson_kinds.specs.Text.{Bytes, Utf8, has_zero}
 use Rattle.bson_base.specs.Tree.{Pairs, null, kind, enc, element}
 use Rattle.bson_kinds.specs.declared.element_type.ElementType.TheVariants.{Null}
 use Rattle.bson_rawdoc.specs.Node.{Node, Nodes, node_in, nodes_with}
-use Rattle.bson_rawdoc.specs.Piece.{Piece}
+use Rattle.bson_kinds.specs.Piece.{Piece}
 use Rattle.bson_rawdoc.specs.Walk.{Element, Walk, then_walk}
 use Rattle.bson_shape.specs.Form.{UnknownFields, dropped}
 use Rattle.bson_shape.specs.Makers.{AreDistinct, has_name, has_repeat}

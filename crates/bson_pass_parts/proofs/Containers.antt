@@ -9,7 +9,7 @@ use Rattle.bson_base.specs.Tree.{Tree, Trees, Pairs, enc, kind, enclosed, elemen
 use Rattle.bson_kinds.specs.declared.element_type.ElementType.{ElementType}
 use Rattle.bson_kinds.specs.declared.element_type.ElementType.TheVariants as kinds
 use Rattle.bson_rawdoc.specs.Envelope.{inside, is_closed}
-use Rattle.bson_rawdoc.specs.Piece.{made}
+use Rattle.bson_kinds.specs.Piece.{made}
 use Rattle.bson_rawdoc.specs.Node.{inner_node, node_in, nodes_with}
 use Rattle.bson_rawdoc.specs.Walk.{walk}
 use Rattle.bson_shape.specs.Form.{UnknownFields, Form, sequence, structure, Fields}

@@ -8,7 +8,7 @@ use Rattle.bson_base.specs.Tree.{Tree, Pairs, no_pairs, pair, enc, kind, element
 use Rattle.bson_kinds.specs.declared.element_type.ElementType.TheVariants as kinds
 use Rattle.bson_kinds.proofs.Tests.{not_taken}
 use Rattle.bson_rawdoc.specs.Node.{Node, Nodes, ended, then_node, inner_node, node_in, nodes_with}
-use Rattle.bson_rawdoc.specs.Piece.{borrowed, made}
+use Rattle.bson_kinds.specs.Piece.{borrowed, made}
 use Rattle.bson_rawdoc.specs.Walk.{Element, Walk, then_walk, walk}
 use Rattle.bson_shape.specs.Form as form
 use Rattle.bson_shape.specs.Form.{Form, leaf}

@@ -5,7 +5,7 @@ use Rattle.std.proofs.lemmas.List.{append_assoc, append-nil}
 use Rattle.bson_kinds.specs.Text.{Bytes, Utf8}
 use Rattle.bson_base.specs.Tree.{Pairs, no_pairs, pair, enc, kind, element, elements}
 use Rattle.bson_rawdoc.specs.Node.{Node, Nodes, ended, then_node}
-use Rattle.bson_rawdoc.specs.Piece.{Piece}
+use Rattle.bson_kinds.specs.Piece.{Piece}
 use Rattle.bson_shape.specs.Form.{UnknownFields, dropped}
 use Rattle.bson_values.specs.Marked.{Marked, MarkedFields, field_contents}
 use Rattle.bson_values.specs.Value.{no_field_values, field_value}

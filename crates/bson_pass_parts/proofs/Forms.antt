@@ -5,7 +5,7 @@ use Rattle.bson_kinds.specs.Outcome.{result_map}
 use Rattle.bson_kinds.specs.Text.{Utf8}
 use Rattle.bson_base.specs.Tree as tree
 use Rattle.bson_rawdoc.specs.Node.{Node, string}
-use Rattle.bson_rawdoc.specs.Piece.{borrowed, made}
+use Rattle.bson_kinds.specs.Piece.{borrowed, made}
 use Rattle.bson_shape.specs.Form.{Form, newtype, enumeration, Variants, no_variants, variant, Content, unit_content, newtype_content, tuple_content, struct_content}
 use Rattle.bson_shape.specs.Makers.{is_reserved_newtype, is_unit}
 use Rattle.bson_shape.specs.ShapeView as shape_view

@@ -7,7 +7,7 @@ use Rattle.bson_kinds.specs.Outcome.{◌>>=◌, result_map}
 use Rattle.bson_kinds.specs.Text.{Bytes, Utf8}
 use Rattle.bson_base.specs.Tree.{Tree, Trees, no_trees, tree, enc, kind, element, array_elements}
 use Rattle.bson_rawdoc.specs.Node.{Node, Nodes, then_node, node_in, nodes_with}
-use Rattle.bson_rawdoc.specs.Piece.{Piece, borrowed}
+use Rattle.bson_kinds.specs.Piece.{Piece, borrowed}
 use Rattle.bson_rawdoc.specs.Walk.{Element, Walk, then_walk}
 use Rattle.bson_shape.specs.Form.{Form}
 use Rattle.bson_values.specs.Marked.{Marked, MarkedItems, contents, item_contents}

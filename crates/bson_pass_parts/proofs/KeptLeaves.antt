@@ -10,7 +10,7 @@ use Rattle.bson_kinds.specs.declared.element_type.ElementType.{ElementType}
 use Rattle.bson_kinds.specs.declared.element_type.ElementType.TheVariants as kinds
 use Rattle.bson_rawdoc.specs.Node.{from_input, node_in, tree_node}
 use Rattle.bson_rawdoc.specs.Numbers.{int32_in, int64_in, uint32_in}
-use Rattle.bson_rawdoc.specs.Piece.{borrowed, made}
+use Rattle.bson_kinds.specs.Piece.{borrowed, made}
 use Rattle.bson_shape.specs.Form.{Form, leaf}
 use Rattle.bson_shape.specs.declared.leaf.Leaf.{Leaf}
 use Rattle.bson_shape.specs.declared.leaf.Leaf.TheVariants as leaves

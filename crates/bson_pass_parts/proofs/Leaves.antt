@@ -12,7 +12,7 @@ use Rattle.bson_kinds.specs.declared.element_type.ElementType.TheVariants as kin
 use Rattle.bson_rawdoc.specs.Node as node
 use Rattle.bson_rawdoc.specs.Node.{opens}
 use Rattle.bson_rawdoc.specs.Numbers.{int32_in, int64_in}
-use Rattle.bson_rawdoc.specs.Piece.{borrowed, made}
+use Rattle.bson_kinds.specs.Piece.{borrowed, made}
 use Rattle.bson_shape.specs.Form.{leaf}
 use Rattle.bson_shape.specs.declared.leaf.Leaf.TheVariants as leaves
 use Rattle.bson_values.specs.Marked.{contents}

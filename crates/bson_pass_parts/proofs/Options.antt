@@ -11,11 +11,11 @@ use Rattle.bson_rawdoc.specs.Extent.{two_texts_in}
 use Rattle.bson_rawdoc.specs.Node.{of_bytes, Node, null, string, boolean, broken, opens, regular_expression, db_pointer, javascript_code, symbol, javascript_code_with_scope, binary_node, or_broken, text_bytes, two_bytes, db_pointer_bytes, scoped_bytes, node_with, closed_node, holding, nodes_with, too_deep, node_in}
 use Rattle.bson_rawdoc.specs.Node as node
 use Rattle.bson_rawdoc.specs.Numbers.{int32_in}
-use Rattle.bson_rawdoc.specs.Piece.{Piece, borrowed}
+use Rattle.bson_kinds.specs.Piece.{Piece, borrowed}
 use Rattle.bson_rawdoc.specs.RawValue.{boolean_of, binary_in}
 use Rattle.bson_rawdoc.specs.Walk.{walk}
-use Rattle.bson_rawdoc.specs.declared.raw.Error.{Error}
-use Rattle.bson_rawdoc.specs.declared.raw.Error.TheVariants.{ValueUnclosed}
+use Rattle.bson_faults.specs.declared.raw.Error.{Error}
+use Rattle.bson_faults.specs.declared.raw.Error.TheVariants.{ValueUnclosed}
 use Rattle.bson_shape.specs.Form.{Form, optional}
 use Rattle.bson_values.specs.Marked.{Marked, contents}
 use Rattle.bson_values.specs.Value as value

@@ -6,7 +6,7 @@ use Rattle.bson_kinds.specs.Text.{Bytes, Utf8}
 use Rattle.bson_kinds.specs.declared.element_type.ElementType.TheVariants as kinds
 use Rattle.bson_rawdoc.specs.Node as node
 use Rattle.bson_rawdoc.specs.Node.{ended, inner_node, node_in, nodes_with, opens}
-use Rattle.bson_rawdoc.specs.Piece.{borrowed}
+use Rattle.bson_kinds.specs.Piece.{borrowed}
 use Rattle.bson_rawdoc.specs.Walk.{Element, Walk, then_walk, walk}
 use Rattle.bson_values.specs.Refusal.{inside, under}
 use Rattle.bson_laws.specs.Judged.{at_its_key, at_its_index, scope_key, pass_nodes, ignores}

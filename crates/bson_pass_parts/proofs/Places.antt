@@ -10,7 +10,7 @@ use Rattle.bson_base.specs.Tree.{Tree, Pairs, null, enc, kind, element}
 use Rattle.bson_kinds.specs.declared.element_type.ElementType.TheVariants.{Null}
 use Rattle.bson_kinds.proofs.Tests.{not_taken}
 use Rattle.bson_rawdoc.specs.Node.{Nodes, ended, then_node, node_in, nodes_with}
-use Rattle.bson_rawdoc.specs.Piece.{Piece, borrowed}
+use Rattle.bson_kinds.specs.Piece.{Piece, borrowed}
 use Rattle.bson_rawdoc.specs.Walk.{Element, Walk, then_walk}
 use Rattle.bson_shape.specs.Form.{UnknownFields, dropped}
 use Rattle.bson_shape.specs.Makers.{AreDistinct, has_name, has_repeat}

@@ -11,8 +11,8 @@ use Rattle.bson_kinds.proofs.Outcomes.{bind_ok}
 use Rattle.bson_rawdoc.specs.Extent.{cut_at_zero, extent}
 use Rattle.bson_rawdoc.specs.Node.{node_in}
 use Rattle.bson_rawdoc.specs.Walk.{Element, of_kind, with_key, element_at, Walk, ended, faulty, then_walk, walk_elements}
-use Rattle.bson_rawdoc.specs.declared.raw.Error.{Error}
-use Rattle.bson_rawdoc.specs.declared.raw.Error.TheVariants.{KeyNotUtf8, BadExtent}
+use Rattle.bson_faults.specs.declared.raw.Error.{Error}
+use Rattle.bson_faults.specs.declared.raw.Error.TheVariants.{KeyNotUtf8, BadExtent}
 use Rattle.bson_rawdoc.proofs.Walks.{walk-nil, walk_ok, walk_err}
 use Rattle.bson_shape.specs.Form.{Form}
 use Rattle.bson_itself.proofs.Left.{byte_is, cut_parts}

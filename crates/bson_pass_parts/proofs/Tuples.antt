@@ -11,7 +11,7 @@ use Rattle.bson_base.specs.Tree.{Tree, Trees, enc, kind, element, enclosed}
 use Rattle.bson_kinds.specs.declared.element_type.ElementType.TheVariants as kinds
 use Rattle.bson_rawdoc.specs.Envelope.{inside, is_closed}
 use Rattle.bson_rawdoc.specs.Node.{Node, Nodes, then_node, inner_node, node_in, nodes_with}
-use Rattle.bson_rawdoc.specs.Piece.{Piece, borrowed, made}
+use Rattle.bson_kinds.specs.Piece.{Piece, borrowed, made}
 use Rattle.bson_rawdoc.specs.Walk.{Element, Walk, then_walk, walk}
 use Rattle.bson_shape.specs.Form.{Form, Parts, part, tuple, tuple_structure}
 use Rattle.bson_shape.specs.ShapeView.{parts_of}

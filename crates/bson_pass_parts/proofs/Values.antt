@@ -5,7 +5,7 @@ use Rattle.bson_kinds.specs.declared.element_type.ElementType.{ElementType}
 use Rattle.bson_rawdoc.specs.Node.{node_in, inner_node, value_node}
 use Rattle.bson_rawdoc.specs.RawValue.{RawValue, value_in}
 use Rattle.bson_rawdoc.specs.ValueView.{raw_value}
-use Rattle.bson_rawdoc.specs.declared.raw.Error.{Error}
+use Rattle.bson_faults.specs.declared.raw.Error.{Error}
 use Rattle.bson_rawdoc.specs.declared.value.RawBsonRef.{RawBsonRef}
 use Rattle.bson_rawdoc.proofs.Nodes.{Sees, element_seen}
 

@@ -13,7 +13,7 @@ use Rattle.bson_kinds.specs.declared.element_type.ElementType.TheVariants as kin
 use Rattle.bson_rawdoc.specs.Envelope.{inside, is_closed}
 use Rattle.bson_rawdoc.specs.Node as node
 use Rattle.bson_rawdoc.specs.Node.{Whole, of_bytes, Node, Nodes, then_node, inner_node, node_in, nodes_with}
-use Rattle.bson_rawdoc.specs.Piece.{borrowed, made}
+use Rattle.bson_kinds.specs.Piece.{borrowed, made}
 use Rattle.bson_rawdoc.specs.Walk.{walk, walk_elements}
 use Rattle.bson_shape.specs.Form.{dropped, enumeration, Variants, Content, unit_content, newtype_content, tuple_content, struct_content}
 use Rattle.bson_shape.specs.Makers.{has_name, has_repeat, variant_names, AreVariants, IsContent}

@@ -3,7 +3,7 @@ ghost use Rattle.std.specs.Prelude.{◌≡◌, ◌++◌, false, IfSome, Some};
 ghost use Rattle.bson_base.specs.Sound.{IsBinary};
 ghost use Rattle.bson_base.specs.Tree.{binary, after_length};
 ghost use Rattle.bson_rawdoc.specs.Node.{binary_node};
-ghost use Rattle.bson_rawdoc.specs.Piece.{borrowed};
+ghost use Rattle.bson_kinds.specs.Piece.{borrowed};
 ghost use Rattle.bson_shape.specs.Form as form;
 ghost use Rattle.bson_pass_parts.specs.Put.{recast_node, IsPut};
 

@@ -2,7 +2,7 @@
 ghost use Rattle.std.specs.Prelude.{◌≡◌, ◌≤◌, ◌-◌, ℕ, Ok, true, false, IfSome, IsTrue};
 ghost use Rattle.std.specs.Str.{is_utf8};
 ghost use Rattle.bson_rawdoc.specs.Node.{binary_node, inner_node, node_in, nodes_with, value_node};
-ghost use Rattle.bson_rawdoc.specs.Piece.{borrowed};
+ghost use Rattle.bson_kinds.specs.Piece.{borrowed};
 ghost use Rattle.bson_rawdoc.specs.ValueView.{raw_value};
 ghost use Rattle.bson_laws.specs.Judged.{ignores};
 ghost use Rattle.bson_pass_parts.specs.Free.{ArePassed};

@@ -4,7 +4,7 @@ ghost use Rattle.bson_base.specs.Sound.{HasBytes};
 ghost use Rattle.bson_base.specs.Tree.{le32};
 ghost use Rattle.bson_rawdoc.specs.Node as nodes;
 ghost use Rattle.bson_rawdoc.specs.Node.{opens};
-ghost use Rattle.bson_rawdoc.specs.Piece.{borrowed};
+ghost use Rattle.bson_kinds.specs.Piece.{borrowed};
 ghost use Rattle.bson_shape.specs.Form as form;
 ghost use Rattle.bson_pass_parts.specs.Put.{recast_node, IsPut};
 

@@ -5,7 +5,7 @@ ghost use Rattle.bson_base.specs.Tree.{string, int32, int64, le64};
 ghost use Rattle.bson_rawdoc.specs.Node as nodes;
 ghost use Rattle.bson_kinds.specs.declared.element_type.ElementType.TheVariants as kinds;
 ghost use Rattle.bson_rawdoc.specs.Node.{value_node, inner_node, node_in};
-ghost use Rattle.bson_rawdoc.specs.Piece.{borrowed};
+ghost use Rattle.bson_kinds.specs.Piece.{borrowed};
 ghost use Rattle.bson_rawdoc.specs.ValueView.{raw_value};
 ghost use Rattle.bson_shape.specs.Form as form;
 ghost use Rattle.bson_pass_parts.specs.Put.{recast_node, IsPut};

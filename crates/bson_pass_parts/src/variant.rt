@@ -1,7 +1,7 @@
 // Texts at enums.
 ghost use Rattle.std.specs.Prelude.{◌≡◌, IfSome};
 ghost use Rattle.bson_rawdoc.specs.Node as nodes;
-ghost use Rattle.bson_rawdoc.specs.Piece.{borrowed};
+ghost use Rattle.bson_kinds.specs.Piece.{borrowed};
 ghost use Rattle.bson_shape.specs.Form.{enumeration};
 ghost use Rattle.bson_shape.specs.ShapeView.{variants_of};
 ghost use Rattle.bson_laws.specs.declared.origin.Reader.{Reader};

@@ -11,7 +11,7 @@ use Rattle.bson_base.specs.Tree.{Tree, document, array, raw, binary, javascript_
 use Rattle.bson_kinds.specs.declared.element_type.ElementType.TheVariants.{JavaScriptCode, JavaScriptCodeWithScope}
 use Rattle.bson_base.proofs.Lengths.{length-le32}
 use Rattle.bson_kinds.proofs.Outcomes.{ok_is, map_ok}
-use Rattle.bson_rawdoc.specs.Piece.{made}
+use Rattle.bson_kinds.specs.Piece.{made}
 use Rattle.bson_values.specs.Cause.{unknown_field}
 use Rattle.bson_values.specs.Marked.{Marked}
 use Rattle.bson_datum.specs.MarkedView.{marked}

@@ -4,7 +4,7 @@ use Rattle.bson_kinds.specs.Outcome.{◌>>=◌}
 use Rattle.bson_base.specs.Pairs.{put}
 use Rattle.bson_base.specs.Tree.{Tree, Pairs}
 use Rattle.bson_rawdoc.specs.Node.{Node, Nodes, ended, then_node}
-use Rattle.bson_rawdoc.specs.Piece.{Piece}
+use Rattle.bson_kinds.specs.Piece.{Piece}
 use Rattle.bson_values.specs.declared.de.Fault.{Fault}
 use Rattle.bson_values.specs.declared.stop.Stop.{Stop}
 use Rattle.bson_laws.specs.Judged.{Reading, judged}

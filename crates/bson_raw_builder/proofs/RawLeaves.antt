@@ -12,7 +12,7 @@ use Rattle.bson_kinds.specs.declared.element_type.ElementType.{ElementType}
 use Rattle.bson_kinds.proofs.Outcomes.{map_ok, bind_ok}
 use Rattle.bson_rawdoc.specs.Node as node
 use Rattle.bson_rawdoc.specs.Node.{Node, extended, ended, opens}
-use Rattle.bson_rawdoc.specs.Piece.{Piece, made}
+use Rattle.bson_kinds.specs.Piece.{Piece, made}
 use Rattle.bson_shape.specs.declared.leaf.Leaf.{Leaf}
 use Rattle.bson_shape.specs.declared.leaf.Leaf.TheVariants.{RawDocument, RawArray, RawBson}
 use Rattle.bson_values.specs.Cause.{invalid_type}

@@ -10,7 +10,7 @@ use Rattle.bson_base.specs.Tree.{Tree, document, array, raw, Pairs, no_pairs, pa
 use Rattle.bson_kinds.proofs.Outcomes.{ok_is, map_ok, bind_ok}
 use Rattle.bson_rawdoc.specs.Node as node
 use Rattle.bson_rawdoc.specs.Node.{Whole, of_bytes, of_tree, of_opening, Nodes}
-use Rattle.bson_rawdoc.specs.Piece.{made}
+use Rattle.bson_kinds.specs.Piece.{made}
 use Rattle.bson_values.specs.Cause.{Cause, too_long}
 use Rattle.bson_values.specs.Wrapper.{of_key}
 use Rattle.bson_values.specs.declared.wrapper.Wrapper.{Wrapper}

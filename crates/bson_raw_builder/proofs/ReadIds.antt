@@ -17,7 +17,7 @@ use Rattle.bson_base.specs.declared.document.Document.{Document}
 use Rattle.bson_kinds.specs.declared.element_type.ElementType.TheVariants as kinds
 use Rattle.bson_kinds.proofs.Outcomes.{some_is, some_map, map_ok, bind_ok, ok_is}
 use Rattle.bson_rawdoc.specs.Node.{from_memory, tree_node, pair_nodes}
-use Rattle.bson_rawdoc.specs.Piece.{made}
+use Rattle.bson_kinds.specs.Piece.{made}
 use Rattle.bson_values.specs.Marked.{Marked}
 use Rattle.bson_values.specs.Refusal.{ReadFault, Refusal, under}
 use Rattle.bson_values.specs.Wrapper as wrapper

@@ -7,7 +7,7 @@ use Rattle.std.proofs.lemmas.Str.{IsUtf8-from_is_utf8, is_utf8-from_IsUtf8}
 use Rattle.bson_kinds.specs.Text.{Bytes}
 use Rattle.bson_kinds.specs.Kind.{of_byte}
 use Rattle.bson_rawdoc.specs.Extent.{cut_at_zero}
-use Rattle.bson_rawdoc.specs.declared.raw.Error.TheVariants.{KeyUnclosed, KeyNotUtf8}
+use Rattle.bson_faults.specs.declared.raw.Error.TheVariants.{KeyUnclosed, KeyNotUtf8}
 use Rattle.bson_rawdoc.specs.Walk.{of_kind, with_key, element_at}
 
 not_true : (b : Bool) → (b ≡ true → ⊥) → b ≡ false

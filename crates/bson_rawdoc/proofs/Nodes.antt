@@ -11,12 +11,12 @@ use Rattle.bson_rawdoc.specs.Envelope.{is_closed, inside}
 use Rattle.bson_rawdoc.specs.Extent.{two_texts_in}
 use Rattle.bson_rawdoc.specs.Node.{of_bytes, Node, string, boolean, broken, regular_expression, db_pointer, javascript_code, symbol, javascript_code_with_scope, text_fault, fault, opens, binary_node, or_broken, text_bytes, two_bytes, db_pointer_bytes, scoped_bytes, node_with, nodes_with, holding, closed_node, node_in, inner_node, value_node}
 use Rattle.bson_rawdoc.specs.Numbers.{int32_in}
-use Rattle.bson_rawdoc.specs.Piece.{Piece, borrowed}
+use Rattle.bson_kinds.specs.Piece.{Piece, borrowed}
 use Rattle.bson_rawdoc.specs.RawValue as raw
 use Rattle.bson_rawdoc.specs.RawValue.{utf8_in, text_in, closed_in, boolean_of, binary_in, regex_of, db_pointer_in, code_and_scope, scoped_code, value_in}
 use Rattle.bson_rawdoc.specs.Walk.{walk}
-use Rattle.bson_rawdoc.specs.declared.raw.Error.{Error}
-use Rattle.bson_rawdoc.specs.declared.raw.Error.TheVariants.{NotUtf8, TextUnclosed, ScopeTotal, ValueUnclosed}
+use Rattle.bson_faults.specs.declared.raw.Error.{Error}
+use Rattle.bson_faults.specs.declared.raw.Error.TheVariants.{NotUtf8, TextUnclosed, ScopeTotal, ValueUnclosed}
 
 -- What is seen is the node, which has no fault; what is refused is the fault of the node.
 abbrev pub Sees : {A : Type 0} → (A → Node) → Result A Error → Node → Type 0

@@ -4,7 +4,7 @@ use Rattle.std.specs.Borrow.{Bor}
 use Rattle.std.proofs.lemmas.List.{take_all}
 use Rattle.bson_kinds.specs.Text.{Bytes}
 use Rattle.bson_kinds.specs.Outcome.{result_map}
-use Rattle.bson_rawdoc.specs.declared.raw.Error.{Error}
+use Rattle.bson_faults.specs.declared.raw.Error.{Error}
 use Rattle.bson_rawdoc.specs.Walk.{Element, element_at}
 use Rattle.bson_rawdoc.specs.Next.{IsStep}
 use Rattle.bson_rawdoc.proofs.Walks.{walk_ok, walk_err}

@@ -9,8 +9,8 @@ use Rattle.bson_base.specs.Tree.{Tree, double, string, document, array, binary, 
 use Rattle.bson_rawdoc.specs.RawValue as raw
 use Rattle.bson_rawdoc.specs.RawValue.{RawValue, value_in}
 use Rattle.bson_rawdoc.specs.Walk.{Walk, ended, faulty, then_walk, walk}
-use Rattle.bson_rawdoc.specs.declared.raw.Error.{Error}
-use Rattle.bson_rawdoc.specs.declared.raw.Error.TheVariants.{TooDeep, NoMemory}
+use Rattle.bson_faults.specs.declared.raw.Error.{Error}
+use Rattle.bson_faults.specs.declared.raw.Error.TheVariants.{TooDeep, NoMemory}
 
 -- ---- a value, a document and an array
 

@@ -5,7 +5,7 @@ use Rattle.bson_kinds.specs.Text.{Utf8}
 use Rattle.bson_kinds.specs.Outcome.{result_map}
 use Rattle.bson_rawdoc.specs.RawValue.{RawValue, value_in}
 use Rattle.bson_rawdoc.specs.Walk.{Walk, ended, faulty, then_walk}
-use Rattle.bson_rawdoc.specs.declared.raw.Error.{Error}
+use Rattle.bson_faults.specs.declared.raw.Error.{Error}
 
 abbrev pub present : Result RawValue Error → Result (Option RawValue) Error
 present r = result_map Some r

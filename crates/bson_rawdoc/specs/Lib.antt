@@ -2,7 +2,6 @@ pub mod Numbers
 pub mod Envelope
 pub mod Extent
 pub mod Walk
-pub mod Piece
 pub mod Node
 pub mod RawValue
 pub mod JsonKinds
@@ -12,7 +11,6 @@ pub mod DocumentTree
 pub mod Unjudged
 pub mod UnjudgedView
 pub mod Lossy
-pub mod Printed
 pub mod Next
 pub mod Get
 pub mod Cut

@@ -8,8 +8,8 @@ use Rattle.bson_base.specs.Tree as tree
 use Rattle.bson_base.specs.Tree.{Tree, no_pairs}
 use Rattle.bson_base.specs.declared.bson.Bson.{Bson}
 use Rattle.bson_rawdoc.specs.RawValue.{RawValue, string, regular_expression, db_pointer, javascript_code, symbol, javascript_code_with_scope}
-use Rattle.bson_rawdoc.specs.declared.raw.Error.{Error}
-use Rattle.bson_rawdoc.specs.declared.raw.Error.TheVariants.{NoMemory}
+use Rattle.bson_faults.specs.declared.raw.Error.{Error}
+use Rattle.bson_faults.specs.declared.raw.Error.TheVariants.{NoMemory}
 
 -- The value of a kind with texts, with the options of a regular expression in order, and without a scope; none at another kind.
 abbrev pub lossy_tree : RawValue → Option Tree

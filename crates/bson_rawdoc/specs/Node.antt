@@ -15,13 +15,13 @@ use Rattle.bson_rawdoc.specs.Envelope.{is_closed, inside}
 use Rattle.bson_rawdoc.specs.Extent.{two_texts_in}
 use Rattle.bson_base.specs.Made.{digits, number_text, base64_text}
 use Rattle.bson_rawdoc.specs.Numbers.{uint32_in, int32_in, int64_in}
-use Rattle.bson_rawdoc.specs.Piece.{Piece, borrowed, made}
+use Rattle.bson_kinds.specs.Piece.{Piece, borrowed, made}
 use Rattle.bson_rawdoc.specs.RawValue as raw
 use Rattle.bson_rawdoc.specs.RawValue.{RawValue, boolean_of, binary_in}
 use Rattle.bson_rawdoc.specs.Walk.{Element, Walk, walk}
 use Rattle.bson_rawdoc.specs.Walk as walks
-use Rattle.bson_rawdoc.specs.declared.raw.Error.{Error}
-use Rattle.bson_rawdoc.specs.declared.raw.Error.TheVariants.{BadExtent, NotUtf8, TextUnclosed, ScopeTotal, ValueUnclosed}
+use Rattle.bson_faults.specs.declared.raw.Error.{Error}
+use Rattle.bson_faults.specs.declared.raw.Error.TheVariants.{BadExtent, NotUtf8, TextUnclosed, ScopeTotal, ValueUnclosed}
 
 -- ---- values
 

@@ -9,8 +9,8 @@ use Rattle.bson_kinds.specs.declared.element_type.ElementType.{ElementType}
 use Rattle.bson_rawdoc.specs.Envelope.{is_closed, inside}
 use Rattle.bson_rawdoc.specs.Extent.{two_texts_in}
 use Rattle.bson_rawdoc.specs.Numbers.{uint32_in, int32_in, int64_in}
-use Rattle.bson_rawdoc.specs.declared.raw.Error.{Error}
-use Rattle.bson_rawdoc.specs.declared.raw.Error.TheVariants.{BadExtent, NotUtf8, BadBoolean, TextUnclosed, InnerLength, ScopeTotal, ValueUnclosed}
+use Rattle.bson_faults.specs.declared.raw.Error.{Error}
+use Rattle.bson_faults.specs.declared.raw.Error.TheVariants.{BadExtent, NotUtf8, BadBoolean, TextUnclosed, InnerLength, ScopeTotal, ValueUnclosed}
 
 -- a value, whose documents, arrays and scopes stay bytes until they are walked
 pub data RawValue : Type 0 where

@@ -8,8 +8,8 @@ use Rattle.bson_rawdoc.specs.Envelope.{is_closed, inside}
 use Rattle.bson_rawdoc.specs.Extent.{two_texts_in}
 use Rattle.bson_rawdoc.specs.Numbers.{int32_in}
 use Rattle.bson_rawdoc.specs.RawValue.{RawValue, string, regular_expression, db_pointer, javascript_code, symbol, javascript_code_with_scope, closed_in, scoped_parts}
-use Rattle.bson_rawdoc.specs.declared.raw.Error.{Error}
-use Rattle.bson_rawdoc.specs.declared.raw.Error.TheVariants.{BadExtent, TextUnclosed}
+use Rattle.bson_faults.specs.declared.raw.Error.{Error}
+use Rattle.bson_faults.specs.declared.raw.Error.TheVariants.{BadExtent, TextUnclosed}
 
 -- what is between the length of a text and the zero behind it
 abbrev pub text_in : Bytes → Result Bytes Error

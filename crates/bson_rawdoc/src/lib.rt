@@ -10,7 +10,6 @@ mod get;
 mod iter;
 mod owned;
 mod parts;
-pub mod raw;
 pub mod reading;
 mod tree;
 mod unjudged;
@@ -18,6 +17,7 @@ pub mod utf8;
 mod value;
 
 pub use array::RawArray;
+pub use bson_faults::raw;
 pub use bson_io::{
     Failed, Ledger, MemorySink, MemorySource, Out, ReadAdapter, Sink, Source, SteadySink,
     SteadySource, Steps, Tally, WriteAdapter,

@@ -9,7 +9,7 @@ use Rattle.bson_base.specs.Tree.{Tree, enc}
 use Rattle.bson_kinds.specs.declared.element_type.ElementType.TheVariants.{EmbeddedDocument}
 use Rattle.bson_rawdoc.specs.Envelope.{envelope}
 use Rattle.bson_rawdoc.specs.Node.{node_in}
-use Rattle.bson_rawdoc.specs.declared.raw.Error.{Error}
+use Rattle.bson_faults.specs.declared.raw.Error.{Error}
 use Rattle.bson_shape.specs.Form.{Form}
 use Rattle.bson_shape.specs.Makers.{IsShape}
 use Rattle.bson_values.specs.Cause.{raw}

@@ -1,7 +1,7 @@
 -- What a writer of values gives: what the definition of writing gives, or out of memory. Source: this library's own errors.
 use Rattle.std.specs.Prelude.{◌≡◌, Option, Some, None, Result, Ok, Err}
-use Rattle.bson_rawdoc.specs.declared.raw.Error.{Error}
-use Rattle.bson_rawdoc.specs.declared.raw.Error.TheVariants.{NoMemory}
+use Rattle.bson_faults.specs.declared.raw.Error.{Error}
+use Rattle.bson_faults.specs.declared.raw.Error.TheVariants.{NoMemory}
 use Rattle.bson_values.specs.Cause.{raw}
 use Rattle.bson_values.specs.Refusal.{WriteFault, unwritable, Refusal, here, Failure, no_memory, bare}
 use Rattle.bson_values.specs.Stop.{stop_view}

@@ -1,6 +1,6 @@
 // Fields, structs and struct variants under owned names.
 ghost use Rattle.std.specs.Prelude.{◌≡◌, IfOk};
-ghost use Rattle.bson_rawdoc.specs.Piece.{made};
+ghost use Rattle.bson_kinds.specs.Piece.{made};
 ghost use Rattle.bson_values.specs.Pieces.{text_piece};
 ghost use Rattle.bson_datum.specs.MarkedView.{marked};
 ghost use Rattle.bson_values.specs.Value as value;

@@ -1,7 +1,7 @@
 ghost use Rattle.std.specs.Prelude.{◌≡◌, ◌<◌, ◌≤◌, ◌+◌, [], ◌∷◌, length, false, if◌then◌else◌, Some, None, is_some, option_map, string_bytes, IfOk, List, Option};
 ghost use Rattle.std.specs.Bool.{OnTrue};
 ghost use Rattle.bson_shape.specs.ShapeView.{fields_of};
-ghost use Rattle.bson_rawdoc.specs.Piece.{Piece};
+ghost use Rattle.bson_kinds.specs.Piece.{Piece};
 ghost use Rattle.bson_datum.specs.MarkedView.{marked};
 ghost use Rattle.bson_values.specs.Value.{none};
 ghost use Rattle.bson_datum.specs.declared.datum.Datum.{Datum};

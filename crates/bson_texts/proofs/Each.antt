@@ -2,7 +2,7 @@
 use Rattle.std.proofs.Common.{◌≡◌, ℕ, suc, ◌+◌, Bool, true, false, Ok, Err, refl, ap, sym, subst, ◌∙◌, add-one}
 use Rattle.bson_kinds.specs.Outcome.{◌>>=◌}
 use Rattle.bson_rawdoc.specs.Node.{Node, Nodes, ended, faulty, then_node}
-use Rattle.bson_rawdoc.specs.Piece.{Piece}
+use Rattle.bson_kinds.specs.Piece.{Piece}
 use Rattle.bson_values.specs.Cause.{raw}
 use Rattle.bson_values.specs.declared.de.Fault.{Fault}
 use Rattle.bson_values.specs.declared.stop.Stop.{Stop}

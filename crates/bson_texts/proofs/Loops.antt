@@ -3,8 +3,8 @@ use Rattle.std.proofs.Common.{◌≡◌, ℕ, suc, List, [], ◌∷◌, ◌++◌
 use Rattle.bson_kinds.specs.Text.{Bytes}
 use Rattle.bson_kinds.specs.Outcome.{◌>>=◌, result_map}
 use Rattle.bson_rawdoc.specs.Node.{Node, too_deep, fault, Nodes, ended, faulty, then_node}
-use Rattle.bson_rawdoc.specs.Piece.{Piece}
-use Rattle.bson_rawdoc.specs.declared.raw.Error.{Error}
+use Rattle.bson_kinds.specs.Piece.{Piece}
+use Rattle.bson_faults.specs.declared.raw.Error.{Error}
 use Rattle.bson_values.specs.Marked.{Marked, MarkedItems, MarkedEntries}
 use Rattle.bson_datum.specs.MarkedView.{marked}
 use Rattle.bson_values.specs.Refusal.{Segment, inside, under, under_index}

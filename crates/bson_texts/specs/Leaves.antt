@@ -3,7 +3,7 @@ use Rattle.std.specs.Prelude.{ℕ, ℤ, Bool, if◌then◌else◌, Option, Some,
 use Rattle.bson_kinds.specs.Text.{Bytes}
 use Rattle.bson_kinds.specs.Outcome.{◌>>=◌}
 use Rattle.bson_rawdoc.specs.Node.{Node}
-use Rattle.bson_rawdoc.specs.Piece.{Piece, made}
+use Rattle.bson_kinds.specs.Piece.{Piece, made}
 use Rattle.bson_values.specs.Cause.{out_of_range}
 use Rattle.bson_values.specs.Marked.{Marked}
 use Rattle.bson_values.specs.Value.{in_range, integer}

@@ -1,6 +1,6 @@
 // Byte strings, borrowed and owned.
 ghost use Rattle.bson_rawdoc.specs.Node.{opens};
-ghost use Rattle.bson_rawdoc.specs.Piece.{borrowed};
+ghost use Rattle.bson_kinds.specs.Piece.{borrowed};
 ghost use Rattle.bson_laws.specs.Taken.{bytes_of, reads_bytes};
 ghost use Rattle.bson_met.specs.Gives.{Reaches};
 ghost use Rattle.bson_met.specs.OpenedView.{extended_view};

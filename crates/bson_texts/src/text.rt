@@ -1,7 +1,7 @@
 // Texts, and characters.
 ghost use Rattle.std.specs.Prelude.{◌≡◌, true, false, string_bytes};
 ghost use Rattle.std.specs.Str.{chars};
-ghost use Rattle.bson_rawdoc.specs.Piece.{borrowed, made};
+ghost use Rattle.bson_kinds.specs.Piece.{borrowed, made};
 ghost use Rattle.bson_datum.specs.MarkedView.{marked};
 ghost use Rattle.bson_laws.specs.Taken.{read_character};
 ghost use Rattle.bson_laws.specs.Views as views;

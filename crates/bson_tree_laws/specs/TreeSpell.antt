@@ -10,7 +10,7 @@ use Rattle.bson_base.specs.Tree as tree
 use Rattle.bson_base.specs.Tree.{Tree, string, document, array, binary, null, Pairs, no_pairs, pair, Trees, no_trees}
 use Rattle.bson_values.specs.Value.{written_as, Value, boolean, integer, double, character, str, bytes, none, some, unit, unit_structure, newtype, sequence, map, structure, unit_variant, newtype_variant, tuple, tuple_structure, tuple_variant, structure_variant, raw_document, raw_array, mode, Items, no_items, item, Entries, no_entries, entry, FieldValues, no_field_values, field_value, readable_inside}
 use Rattle.bson_rawdoc.specs.DocumentTree.{document_pairs, array_trees}
-use Rattle.bson_rawdoc.specs.declared.raw.Error.{Error}
+use Rattle.bson_faults.specs.declared.raw.Error.{Error}
 use Rattle.bson_values.specs.Cause.{raw, too_deep, bad_uuid}
 use Rattle.bson_values.specs.Refusal.{unwritable, invalid_document_key, here, under, under_index}
 use Rattle.bson_laws.specs.Spell.{Writing, enclosed_at, newtype_at, spell_number}

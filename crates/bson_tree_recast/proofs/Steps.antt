@@ -6,8 +6,8 @@ use Rattle.bson_base.specs.Encoded.{EncodeFault, IsRefusedFor}
 use Rattle.bson_kinds.specs.Outcome.{◌>>=◌}
 use Rattle.bson_kinds.specs.Text.{Bytes}
 use Rattle.bson_base.specs.Tree.{Pairs}
-use Rattle.bson_rawdoc.specs.declared.raw.Error.{Error}
-use Rattle.bson_rawdoc.specs.declared.raw.Error.TheVariants.{NoMemory}
+use Rattle.bson_faults.specs.declared.raw.Error.{Error}
+use Rattle.bson_faults.specs.declared.raw.Error.TheVariants.{NoMemory}
 use Rattle.bson_values.specs.ErrorView.{read_failure, write_failure}
 use Rattle.bson_values.specs.Refusal.{ReadFault, WriteFault, Failure, no_memory, bare, placed, FailsAs}
 use Rattle.bson_values.specs.Value.{Value}

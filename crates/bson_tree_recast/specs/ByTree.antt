@@ -6,8 +6,8 @@ use Rattle.bson_kinds.specs.Text.{Bytes}
 use Rattle.bson_base.specs.Tree.{document, Pairs}
 use Rattle.bson_rawdoc.specs.DocumentTree.{document_pairs}
 use Rattle.bson_rawdoc.specs.Envelope.{envelope}
-use Rattle.bson_rawdoc.specs.declared.raw.Error.{Error}
-use Rattle.bson_rawdoc.specs.declared.raw.Error.TheVariants.{NoMemory}
+use Rattle.bson_faults.specs.declared.raw.Error.{Error}
+use Rattle.bson_faults.specs.declared.raw.Error.TheVariants.{NoMemory}
 use Rattle.bson_shape.specs.Form.{Form}
 use Rattle.bson_values.specs.Cause as causes
 use Rattle.bson_values.specs.Refusal.{unreadable, WriteFault, unwritable, invalid_cstring, bare}

@@ -8,7 +8,7 @@ use Rattle.bson_base.specs.Tree.{Tree, Pairs, kind}
 use Rattle.bson_kinds.specs.declared.element_type.ElementType.{ElementType}
 use Rattle.bson_kinds.proofs.Outcomes.{map_ok}
 use Rattle.bson_rawdoc.specs.Node.{Node}
-use Rattle.bson_rawdoc.specs.Piece.{made}
+use Rattle.bson_kinds.specs.Piece.{made}
 use Rattle.bson_values.specs.Cause.{wrong_kind}
 use Rattle.bson_values.specs.Marked.{Marked, MarkedEntries}
 use Rattle.bson_values.specs.Value as value

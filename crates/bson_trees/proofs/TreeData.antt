@@ -9,7 +9,7 @@ use Rattle.bson_base.specs.Tree.{Tree, Pairs, no_pairs, pair, Trees, kind}
 use Rattle.bson_kinds.proofs.Outcomes.{map_ok}
 use Rattle.bson_rawdoc.specs.Node as node
 use Rattle.bson_rawdoc.specs.Node.{Node, Nodes, ended, faulty, then_node}
-use Rattle.bson_rawdoc.specs.Piece.{Piece, made}
+use Rattle.bson_kinds.specs.Piece.{Piece, made}
 use Rattle.bson_values.specs.Cause.{invalid_type, unknown_field}
 use Rattle.bson_values.specs.Marked.{Marked, MarkedItems, MarkedEntries, contents}
 use Rattle.bson_datum.specs.MarkedView.{marked}

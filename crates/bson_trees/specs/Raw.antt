@@ -1,7 +1,7 @@
 -- What contracts see of documents and arrays in their bytes. Source: this library's own types.
 use Rattle.bson_kinds.specs.Outcome.{◌>>=◌}
 use Rattle.bson_rawdoc.specs.Node.{Node}
-use Rattle.bson_rawdoc.specs.Piece.{Piece}
+use Rattle.bson_kinds.specs.Piece.{Piece}
 use Rattle.bson_values.specs.Refusal.{under}
 use Rattle.bson_laws.specs.Judged.{Reading, judged, scope_key}
 use Rattle.bson_laws.specs.ReadsRaw.{raw_document_of, raw_array_of}

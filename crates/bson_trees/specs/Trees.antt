@@ -5,7 +5,7 @@ use Rattle.bson_kinds.specs.Text.{Utf8}
 use Rattle.bson_base.specs.Tree as tree
 use Rattle.bson_base.specs.Tree.{Tree, Pairs}
 use Rattle.bson_rawdoc.specs.Node.{Node, Nodes, Extended, javascript_code_with_scope}
-use Rattle.bson_rawdoc.specs.Piece.{made}
+use Rattle.bson_kinds.specs.Piece.{made}
 use Rattle.bson_values.specs.Marked.{Marked, MarkedItems, MarkedEntries}
 use Rattle.bson_values.specs.Refusal.{under}
 use Rattle.bson_values.specs.Value as value

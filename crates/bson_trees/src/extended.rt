@@ -1,7 +1,7 @@
 // Values at the leaves of extended kinds.
 ghost use Rattle.std.specs.Prelude.{◌≡◌, true, false};
 ghost use Rattle.bson_base.specs.Tree.{Tree};
-ghost use Rattle.bson_rawdoc.specs.Piece.{made};
+ghost use Rattle.bson_kinds.specs.Piece.{made};
 ghost use Rattle.bson_shape.specs.Form as form;
 ghost use Rattle.bson_datum.specs.MarkedView.{marked};
 ghost use Rattle.bson_laws.specs.Datum.{datum};

@@ -2,7 +2,7 @@
 ghost use Rattle.std.specs.Prelude.{◌≡◌, true, false};
 ghost use Rattle.bson_kinds.specs.Outcome.{result_map};
 ghost use Rattle.bson_base.specs.Tree.{Tree};
-ghost use Rattle.bson_rawdoc.specs.Piece.{made};
+ghost use Rattle.bson_kinds.specs.Piece.{made};
 ghost use Rattle.bson_datum.specs.MarkedView.{marked};
 ghost use Rattle.bson_values.specs.Value as values;
 ghost use Rattle.bson_laws.specs.Datum.{datum, pair_data};

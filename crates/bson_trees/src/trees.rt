@@ -1,7 +1,7 @@
 // Values as trees.
 ghost use Rattle.std.specs.Prelude.{◌≡◌, string_bytes};
 ghost use Rattle.bson_base.specs.Tree.{Pairs, no_pairs};
-ghost use Rattle.bson_rawdoc.specs.Piece.{made};
+ghost use Rattle.bson_kinds.specs.Piece.{made};
 ghost use Rattle.bson_datum.specs.MarkedView.{marked};
 ghost use Rattle.bson_laws.specs.Datum.{pair_data};
 ghost use Rattle.bson_met.specs.Gives.{Reaches};

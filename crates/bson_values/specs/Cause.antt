@@ -2,7 +2,7 @@
 use Rattle.std.specs.Prelude.{ℕ, ℤ}
 use Rattle.bson_kinds.specs.Text.{Utf8}
 use Rattle.bson_kinds.specs.declared.element_type.ElementType.{ElementType}
-use Rattle.bson_rawdoc.specs.declared.raw.Error as raw_error
+use Rattle.bson_faults.specs.declared.raw.Error as raw_error
 use Rattle.bson_values.specs.declared.wrapper.Wrapper.{Wrapper}
 
 pub data Cause : Type 0 where

@@ -1,5 +1,5 @@
 -- Values whose texts and byte strings, and documents and arrays in their bytes, are marked: borrowed from the input, or owned. Source: serde's data model, borrowed and owned strings.
-use Rattle.bson_rawdoc.specs.Piece.{Piece}
+use Rattle.bson_kinds.specs.Piece.{Piece}
 use Rattle.bson_values.specs.Value.{ValueOf, Value, ItemsOf, Items, EntriesOf, Entries, FieldsOf, FieldValues, boolean, integer, double, character, str, bytes, none, some, unit, unit_structure, unit_variant, newtype, newtype_variant, sequence, tuple, tuple_structure, tuple_variant, map, structure, structure_variant, raw_document, raw_array, mode, no_items, item, no_entries, entry, no_field_values, field_value}
 
 -- a value that says of each text and byte string whether it is borrowed from the input or owned

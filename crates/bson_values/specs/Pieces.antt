@@ -1,6 +1,6 @@
 -- Texts and byte strings with their marks: whether each is borrowed. Source: serde's data model, borrowed and owned strings.
 use Rattle.std.specs.Prelude.{Bool, true, false}
-use Rattle.bson_rawdoc.specs.Piece.{Piece}
+use Rattle.bson_kinds.specs.Piece.{Piece}
 use Rattle.bson_values.specs.ByteStrView.{bytes_view}
 use Rattle.bson_values.specs.TextView.{text_view}
 use Rattle.bson_values.specs.declared.byte_str.ByteStr as byte_str

@@ -4,7 +4,7 @@ use Rattle.std.specs.Fmt.{decimal, signed_decimal}
 use Rattle.bson_kinds.specs.Text.{Utf8}
 use Rattle.bson_kinds.specs.Kind.{name}
 use Rattle.bson_base.specs.Tree.{kind}
-use Rattle.bson_rawdoc.specs.Printed.{printed_fault}
+use Rattle.bson_faults.specs.Printed.{printed_fault}
 use Rattle.bson_values.specs.Cause.{Cause, raw, too_deep, invalid_type, out_of_range, not_one_char, not_utf8, not_borrowed, invalid_length, missing_field, duplicate_field, unknown_variant, unknown_field, unknown_reference, bad_body, wrong_kind, subtype, contents_wanted, unit_in_document, empty_enum, extra_key, zero_byte, top_level, binary_too_long, bad_uuid, bad_step, too_long, not_document, failed, too_small, not_fitting, not_i32, not_i64, increment, not_date, not_object_id, no_rfc3339}
 use Rattle.bson_values.specs.Wrapper.{key}
 use Rattle.bson_values.specs.declared.wrapper.Wrapper.{Wrapper}

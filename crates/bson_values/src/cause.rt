@@ -2,8 +2,8 @@ ghost use Rattle.std.specs.Prelude.{◌≡◌};
 ghost use Rattle.bson_values.specs.Printed.{what_is_expected};
 
 use crate::wrapper::Wrapper;
+use bson_faults::raw;
 use bson_kinds::ElementType;
-use bson_rawdoc::raw;
 use std::fmt;
 
 /// What is said of a timestamp whose increment would be lost.

@@ -8,7 +8,7 @@ ghost use Rattle.bson_values.specs.ErrorView.{read_fault, read_failure};
 use crate::cause::Cause;
 use crate::path::Path;
 use crate::stop::Stop;
-use bson_rawdoc::raw;
+use bson_faults::raw;
 use std::alloc::{AllocError, Global};
 use std::fmt;
 

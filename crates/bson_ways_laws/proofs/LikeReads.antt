@@ -8,7 +8,7 @@ use Rattle.bson_kinds.specs.Reserved.{Reserved, reserved_names, kind_in, reserve
 use Rattle.bson_kinds.specs.Text.{Utf8, begins_with_dollar}
 use Rattle.bson_kinds.proofs.Outcomes.{some_is, ok_is}
 use Rattle.bson_rawdoc.specs.Node.{Node, double, string, document, array, bytes, boolean, null, int32, int64, extended, too_deep, Nodes, ended, faulty, then_node, mended}
-use Rattle.bson_rawdoc.specs.Piece.{Piece, made}
+use Rattle.bson_kinds.specs.Piece.{Piece, made}
 use Rattle.bson_shape.specs.Form.{UnknownFields, dropped, denied, Form, leaf, optional, lossy, human_readable, by_mode, sequence, newtype, unit_structure, map, tuple, tuple_structure, structure, enumeration, reference, definitions, Fields, no_fields, field, Parts, no_parts, part, Content, unit_content, newtype_content, tuple_content, struct_content, Variants, no_variants, variant}
 use Rattle.bson_values.specs.Value as value
 use Rattle.bson_values.specs.Value.{Value, uuid_newtype, i32, i64}

@@ -6,7 +6,7 @@ use Rattle.bson_kinds.specs.Outcome.{◌>>=◌, result_map}
 use Rattle.bson_base.specs.Sorted.{sorted}
 use Rattle.bson_kinds.proofs.Outcomes.{ok_is}
 use Rattle.bson_rawdoc.specs.Node.{Node, double, string, document, array, bytes, boolean, null, int32, int64, extended, too_deep, Extended, binary, undefined, object_id, date_time, regular_expression, db_pointer, javascript_code, symbol, javascript_code_with_scope, timestamp, decimal128, max_key, min_key, Nodes, ended, then_node, opened, mended, mended_text, mended_value, mended_nodes}
-use Rattle.bson_rawdoc.specs.Piece.{Piece, made}
+use Rattle.bson_kinds.specs.Piece.{Piece, made}
 use Rattle.bson_values.specs.Cause.{not_borrowed, not_utf8}
 use Rattle.bson_values.specs.Refusal.{at_index, under_index}
 use Rattle.bson_laws.specs.Judged.{refused, judged}

@@ -17,12 +17,12 @@ use Rattle.bson_rawdoc.specs.DocumentTree.{and_last, pairs_with, trees_with, pai
 use Rattle.bson_rawdoc.specs.Envelope.{is_closed}
 use Rattle.bson_rawdoc.specs.Node as node
 use Rattle.bson_rawdoc.specs.Node.{Node, text_fault, fault, opens, nodes_with, node_in, inner_node, value_node, from_input, from_memory, piece, tree_node, pair_nodes, tree_nodes}
-use Rattle.bson_rawdoc.specs.Piece.{Piece, borrowed}
+use Rattle.bson_kinds.specs.Piece.{Piece, borrowed}
 use Rattle.bson_rawdoc.specs.RawValue as raw
 use Rattle.bson_rawdoc.specs.RawValue.{RawValue, value_in}
 use Rattle.bson_rawdoc.specs.Walk.{Walk, ended, faulty, then_walk, walk}
-use Rattle.bson_rawdoc.specs.declared.raw.Error.{Error}
-use Rattle.bson_rawdoc.specs.declared.raw.Error.TheVariants.{NotUtf8, ValueUnclosed}
+use Rattle.bson_faults.specs.declared.raw.Error.{Error}
+use Rattle.bson_faults.specs.declared.raw.Error.TheVariants.{NotUtf8, ValueUnclosed}
 use Rattle.bson_rawdoc.proofs.Nodes.{Sees, element_seen}
 use Rattle.bson_laws.proofs.JudgedTexts.{neither_fault, unfaulted}
 use Rattle.bson_laws.proofs.ParsedSizes.{sorted_text}

@@ -12,7 +12,7 @@ use Rattle.bson_rawdoc.specs.Envelope.{envelope}
 use Rattle.bson_rawdoc.specs.Node.{from_input}
 use Rattle.bson_shape.specs.Form.{Form, leaf, sequence, structure, reference, definitions, Fields, no_fields, field}
 use Rattle.bson_shape.specs.Makers.{IsShape}
-use Rattle.bson_rawdoc.specs.declared.raw.Error.{Error}
+use Rattle.bson_faults.specs.declared.raw.Error.{Error}
 use Rattle.bson_values.specs.Marked.{Marked, contents}
 use Rattle.bson_values.specs.Value.{Value, kind_of}
 use Rattle.bson_laws.specs.declared.origin.Origin.TheVariants as origins

@@ -5,8 +5,8 @@ use Rattle.std.proofs.lemmas.Slice.Eq.{bytes_eq-Decides}
 use Rattle.bson_kinds.specs.Outcome.{◌>>=◌, result_map}
 use Rattle.bson_kinds.specs.Text.{Utf8}
 use Rattle.bson_rawdoc.specs.Node.{Node, double, string, document, array, bytes, boolean, null, int32, int64, extended, broken, too_deep, Extended, javascript_code_with_scope, Nodes, ended, faulty, then_node, extended_fault}
-use Rattle.bson_rawdoc.specs.Piece.{Piece, made}
-use Rattle.bson_rawdoc.specs.declared.raw.Error.TheVariants.{NotUtf8}
+use Rattle.bson_kinds.specs.Piece.{Piece, made}
+use Rattle.bson_faults.specs.declared.raw.Error.TheVariants.{NotUtf8}
 use Rattle.bson_shape.specs.Form.{UnknownFields, dropped, denied, Form, leaf, sequence, structure, reference, definitions, Fields, no_fields, field}
 use Rattle.bson_values.specs.Value as value
 use Rattle.bson_values.specs.Marked.{Marked, MarkedItems, MarkedFields, contents, item_contents, field_contents}

@@ -8,7 +8,7 @@ use Rattle.bson_base.specs.Tree as tree
 use Rattle.bson_base.specs.Tree.{Tree}
 use Rattle.bson_kinds.proofs.Outcomes.{some_map, map_ok}
 use Rattle.bson_rawdoc.specs.Node.{Node}
-use Rattle.bson_rawdoc.specs.Piece.{made}
+use Rattle.bson_kinds.specs.Piece.{made}
 use Rattle.bson_shape.specs.Form.{dropped, Form, leaf, structure, Fields}
 use Rattle.bson_shape.specs.declared.leaf.Leaf.TheVariants.{ByteBuf}
 use Rattle.bson_values.specs.Cause.{bad_body}

@@ -4,7 +4,7 @@ ghost use Rattle.bson_base.specs.Made.{digits};
 ghost use Rattle.bson_base.specs.Instant.{millis};
 ghost use Rattle.bson_base.specs.Sorted.{sorted};
 ghost use Rattle.bson_base.specs.Tree as tree;
-ghost use Rattle.bson_rawdoc.specs.Piece.{made};
+ghost use Rattle.bson_kinds.specs.Piece.{made};
 ghost use Rattle.bson_values.specs.Pieces.{text_piece};
 ghost use Rattle.bson_datum.specs.MarkedView.{marked};
 ghost use Rattle.bson_values.specs.Value as values;

@@ -1,7 +1,7 @@
 // Structs of one field and of two, whose values are not kept as data.
 ghost use Rattle.std.specs.Prelude.{◌≡◌, [], None, option_map, pos, string_bytes, codes, IfOk};
 ghost use Rattle.bson_kinds.specs.Text.{Utf8};
-ghost use Rattle.bson_rawdoc.specs.Piece.{Piece, made};
+ghost use Rattle.bson_kinds.specs.Piece.{Piece, made};
 ghost use Rattle.bson_shape.specs.Form as forms;
 ghost use Rattle.bson_shape.specs.Form.{Form};
 ghost use Rattle.bson_shape.specs.declared.leaf.Leaf.TheVariants as leaves;

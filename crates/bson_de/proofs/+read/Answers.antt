@@ -1,7 +1,7 @@
 use Rattle.std.proofs.Common.{rules, ◌≡◌, Ok, None, List, refl, string_bytes, ◌+◌, ◌*◌, ◌<◌, ap, sym, subst, ◌∙◌, get_or, map, arith}
 use Rattle.std.specs.Borrow.{Bor}
 use Rattle.bson_kinds.specs.Outcome.{◌>>=◌, result_map}
-use Rattle.bson_rawdoc.specs.Piece.{Piece, made}
+use Rattle.bson_kinds.specs.Piece.{Piece, made}
 use Rattle.bson_shape.specs.Form.{dropped, denied, tuple_content, struct_content}
 use Rattle.bson_shape.specs.Makers.{has_repeat}
 use Rattle.bson_shape.specs.ShapeView.{form_view, fields_of, parts_of, variants_of, content_of, nodes, fields_nodes, parts_nodes, variants_nodes, content_nodes}

@@ -1,6 +1,6 @@
 use Rattle.std.proofs.Common.{rules, Some, Ok, Err, ap, sym, subst, ◌∙◌}
 use Rattle.bson_kinds.specs.Outcome.{◌>>=◌}
-use Rattle.bson_rawdoc.specs.Piece.{made}
+use Rattle.bson_kinds.specs.Piece.{made}
 use Rattle.bson_shape.specs.ShapeView as shape_view
 use Rattle.bson_values.specs.Marked.{Marked}
 use Rattle.bson_datum.specs.MarkedView.{marked}

@@ -4,7 +4,7 @@ use Rattle.bson_kinds.specs.declared.element_type.ElementType.TheVariants.{Embed
 use Rattle.bson_rawdoc.specs.DocumentView.{array_bytes, document_bytes}
 use Rattle.bson_rawdoc.specs.Next as walks
 use Rattle.bson_rawdoc.specs.Node.{node_in, inner_node, value_node, nodes_with, opened}
-use Rattle.bson_rawdoc.specs.Piece.{borrowed}
+use Rattle.bson_kinds.specs.Piece.{borrowed}
 use Rattle.bson_rawdoc.specs.Walk.{Element, walk, then_walk}
 use Rattle.bson_rawdoc.specs.ValueView.{raw_value}
 use Rattle.bson_values.specs.Cause.{raw}

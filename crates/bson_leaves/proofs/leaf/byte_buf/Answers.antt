@@ -1,5 +1,5 @@
 use Rattle.std.proofs.Common.{rules}
-use Rattle.bson_rawdoc.specs.Piece.{made}
+use Rattle.bson_kinds.specs.Piece.{made}
 use Rattle.bson_values.specs.Value as value
 use Rattle.bson_laws.specs.Judged.{judged}
 use Rattle.bson_laws.specs.Taken.{buffer_of}

@@ -3,7 +3,7 @@ use Rattle.std.specs.Prelude.{option_map}
 use Rattle.bson_kinds.specs.Outcome.{result_map}
 use Rattle.bson_rawdoc.specs.Node.{Node, mended, node_in}
 use Rattle.bson_rawdoc.specs.RawValue.{RawValue}
-use Rattle.bson_rawdoc.specs.declared.raw.Error.{Error}
+use Rattle.bson_faults.specs.declared.raw.Error.{Error}
 use Rattle.bson_rawdoc.specs.UnjudgedView.{unjudged_value}
 use Rattle.bson_rawdoc.specs.declared.unjudged.Unjudged.{Unjudged}
 use Rattle.bson_values.specs.Cause.{raw}

@@ -4,7 +4,7 @@ use Rattle.bson_values.specs.Value.{u8}
 use Rattle.bson_laws.specs.Datum.{two, wrapped, nameless}
 use Rattle.bson_laws.specs.TreeRaw.{built_value}
 use Rattle.bson_base.specs.Tree as trees
-use Rattle.bson_rawdoc.specs.Piece.{made}
+use Rattle.bson_kinds.specs.Piece.{made}
 use Rattle.bson_raw_builder.proofs.BuiltValues.{made_is, plain_binary, other_binary}
 use Rattle.bson_raw_builder.proofs.values.binary.Goals as goal
 

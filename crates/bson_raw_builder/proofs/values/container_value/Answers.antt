@@ -1,7 +1,7 @@
 use Rattle.std.proofs.Common.{Ok, ap, sym, subst, rules, ◌∙◌}
 use Rattle.bson_base.specs.Tree.{kind, enc}
 use Rattle.bson_kinds.proofs.Outcomes.{ok_is}
-use Rattle.bson_rawdoc.specs.Piece.{made}
+use Rattle.bson_kinds.specs.Piece.{made}
 use Rattle.bson_values.specs.ErrorView.{read_fault}
 use Rattle.bson_values.specs.Stop.{stop_view}
 use Rattle.bson_laws.specs.Assembled.{RawBytes}

@@ -2,7 +2,7 @@ use Rattle.std.proofs.Common.{◌+◌, ◌≤◌, length, drop, Ok, ap, sym, sub
 use Rattle.bson_base.specs.Sound.{max_bytes}
 use Rattle.bson_base.specs.Tree.{document, enc}
 use Rattle.bson_kinds.proofs.Outcomes.{ok_is}
-use Rattle.bson_rawdoc.specs.Piece.{made}
+use Rattle.bson_kinds.specs.Piece.{made}
 use Rattle.bson_values.specs.ErrorView.{read_fault}
 use Rattle.bson_values.specs.Stop.{stop_view}
 use Rattle.bson_laws.specs.ReadsRaw.{scoped_code}

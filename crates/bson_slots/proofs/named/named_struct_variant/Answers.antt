@@ -1,5 +1,5 @@
 use Rattle.std.proofs.Common.{ap, ◌∙◌}
-use Rattle.bson_rawdoc.specs.Piece.{made}
+use Rattle.bson_kinds.specs.Piece.{made}
 use Rattle.bson_values.specs.Value.{structure_variant}
 use Rattle.bson_values.specs.declared.text.Text.TheVariants.{Owned}
 use Rattle.bson_slots.specs.FieldSlots.{fields_marked}

@@ -1,6 +1,6 @@
 use Rattle.std.proofs.Common.{Ok, ap, sym, subst, ◌∙◌}
 use Rattle.bson_kinds.specs.Outcome.{◌>>=◌}
-use Rattle.bson_rawdoc.specs.Piece.{Piece, borrowed}
+use Rattle.bson_kinds.specs.Piece.{Piece, borrowed}
 use Rattle.bson_values.specs.Cause.{not_utf8}
 use Rattle.bson_laws.specs.Judged.{Reading}
 use Rattle.bson_laws.specs.Taken.{as_text}

@@ -1,5 +1,5 @@
 use Rattle.std.proofs.Common.{sym, subst}
-use Rattle.bson_rawdoc.specs.Piece.{made}
+use Rattle.bson_kinds.specs.Piece.{made}
 use Rattle.bson_shape.specs.Form.{leaf}
 use Rattle.bson_values.specs.Marked.{Marked}
 use Rattle.bson_datum.specs.MarkedView.{marked}

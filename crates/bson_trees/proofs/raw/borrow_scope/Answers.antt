@@ -1,5 +1,5 @@
 use Rattle.std.proofs.Common.{ap, sym, subst, ◌∙◌}
-use Rattle.bson_rawdoc.specs.Piece.{Piece}
+use Rattle.bson_kinds.specs.Piece.{Piece}
 use Rattle.bson_values.specs.Refusal.{at_key, under}
 use Rattle.bson_laws.specs.Judged.{Reading, scope_key}
 use Rattle.bson_met.specs.OpenedView.{scope_node}

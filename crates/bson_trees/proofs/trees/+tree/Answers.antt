@@ -6,7 +6,7 @@ use Rattle.bson_base.specs.Tree.{Tree, no_pairs}
 use Rattle.bson_kinds.proofs.Outcomes.{map_ok}
 use Rattle.bson_rawdoc.specs.Node as node
 use Rattle.bson_rawdoc.specs.Node.{opened}
-use Rattle.bson_rawdoc.specs.Piece.{made}
+use Rattle.bson_kinds.specs.Piece.{made}
 use Rattle.bson_shape.specs.ShapeView.{form_view}
 use Rattle.bson_values.specs.Marked.{Marked}
 use Rattle.bson_datum.specs.MarkedView.{marked}

@@ -3,7 +3,7 @@ use Rattle.bson_kinds.specs.Outcome.{◌>>=◌}
 use Rattle.bson_kinds.specs.Text.{Bytes}
 use Rattle.bson_base.specs.Tree.{Tree, kind}
 use Rattle.bson_kinds.proofs.Outcomes.{map_ok}
-use Rattle.bson_rawdoc.specs.Piece.{made}
+use Rattle.bson_kinds.specs.Piece.{made}
 use Rattle.bson_values.specs.Cause.{wrong_kind}
 use Rattle.bson_values.specs.ErrorView.{read_fault}
 use Rattle.bson_datum.specs.MarkedView.{marked}

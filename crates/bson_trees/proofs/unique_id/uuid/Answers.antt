@@ -1,6 +1,6 @@
 use Rattle.std.proofs.Common.{Ok, ap, sym, subst, ◌∙◌, rules}
 use Rattle.bson_kinds.specs.Outcome.{result_map}
-use Rattle.bson_rawdoc.specs.Piece.{made}
+use Rattle.bson_kinds.specs.Piece.{made}
 use Rattle.bson_values.specs.Marked.{Marked}
 use Rattle.bson_laws.specs.Datum.{uuid_datum}
 use Rattle.bson_laws.specs.Judged.{Reading, judged}

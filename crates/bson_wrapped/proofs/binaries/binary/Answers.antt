@@ -1,6 +1,6 @@
 use Rattle.std.proofs.Common.{Ok, ap, sym, ◌∙◌, rules}
 use Rattle.std.specs.Prelude.{codes, string_bytes}
-use Rattle.bson_rawdoc.specs.Piece.{made}
+use Rattle.bson_kinds.specs.Piece.{made}
 use Rattle.bson_shape.specs.Form.{field, no_fields, Fields}
 use Rattle.bson_values.specs.Value.{str}
 use Rattle.bson_laws.specs.Datum.{two}

@@ -2,7 +2,7 @@ use Rattle.std.proofs.Common.{Ok, Option, ap, sym, subst, ◌∙◌, rules}
 use Rattle.std.specs.Prelude.{codes, string_bytes, option_map}
 use Rattle.bson_base.specs.Parsed.{integer_of_text}
 use Rattle.bson_base.specs.Tree as tree
-use Rattle.bson_rawdoc.specs.Piece.{made}
+use Rattle.bson_kinds.specs.Piece.{made}
 use Rattle.bson_shape.specs.Form.{field, no_fields, Fields}
 use Rattle.bson_values.specs.Marked.{Marked}
 use Rattle.bson_values.specs.Value.{str}

@@ -1,7 +1,7 @@
 use Rattle.std.proofs.Common.{Ok, Some, ap, sym, ◌∙◌, rules}
 use Rattle.std.specs.Prelude.{codes, pos, unsigned_abs}
 use Rattle.bson_base.specs.Tree as tree
-use Rattle.bson_rawdoc.specs.Piece.{made}
+use Rattle.bson_kinds.specs.Piece.{made}
 use Rattle.bson_shape.specs.Form.{leaf, field, no_fields, Fields}
 use Rattle.bson_shape.specs.declared.leaf.Leaf.TheVariants.{U32}
 use Rattle.bson_values.specs.Value.{integer, u32}

@@ -1,6 +1,6 @@
 use Rattle.std.proofs.Common.{◌≡◌, ◌<◌, [], ◌∷◌, ap, subst, ◌∙◌, arith, codes, IfOk}
 use Rattle.bson_base.specs.Made.{digits, base64_text}
-use Rattle.bson_rawdoc.specs.Piece.{made}
+use Rattle.bson_kinds.specs.Piece.{made}
 use Rattle.bson_datum.specs.MarkedView.{marked}
 use Rattle.bson_values.specs.Value as values
 use Rattle.bson_laws.specs.Datum.{two, wrapped, nameless}

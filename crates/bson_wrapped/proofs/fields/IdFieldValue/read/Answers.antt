@@ -1,7 +1,7 @@
 use Rattle.std.proofs.Common.{[], ap, sym, subst, ◌∙◌, rules}
 use Rattle.std.specs.Prelude.{codes}
 use Rattle.bson_kinds.specs.Outcome.{result_map}
-use Rattle.bson_rawdoc.specs.Piece.{made}
+use Rattle.bson_kinds.specs.Piece.{made}
 use Rattle.bson_shape.specs.Form.{dropped, field, no_fields}
 use Rattle.bson_values.specs.Marked.{Marked, MarkedFields}
 use Rattle.bson_values.specs.Value.{structure}

@@ -40,7 +40,7 @@ pub enum Error {
 
 impl From<AllocError> for Error {
     ghost use Rattle.std.specs.Prelude.{◌≡◌};
-    ghost use Rattle.bson_rawdoc.specs.declared.raw.Error.TheVariants.{NoMemory as NoMemoryError};
+    ghost use Rattle.bson_faults.specs.declared.raw.Error.TheVariants.{NoMemory as NoMemoryError};
 
     ghost from_gives = { λ _ e. e ≡ NoMemoryError };
 
@@ -51,7 +51,7 @@ impl From<AllocError> for Error {
 
 impl fmt::Display for Error {
     ghost use Rattle.std.specs.Prelude.{Some};
-    ghost use Rattle.bson_rawdoc.specs.Printed.{printed_fault};
+    ghost use Rattle.bson_faults.specs.Printed.{printed_fault};
 
     ghost output = { λ e. Some (printed_fault e) };
 
