@@ -6,7 +6,7 @@ use base.Stored.{Gv, gnil, gnum, gcons}
 use Rattle.bson_kinds.specs.Prover.Stored.{head, tail, num}
 use Rattle.bson_kinds.specs.declared.element_type.ElementType.{ElementType}
 use Rattle.bson_kinds.specs.contracts.element_type.ElementType as kinds
-use Rattle.bson_rawdoc.specs.contracts.raw.Error as faults
+use Rattle.bson_faults.specs.contracts.raw.Error as faults
 use Rattle.bson_rawdoc.specs.Cut.{Cut}
 use Rattle.bson_rawdoc.specs.Walk.{Element, Walk, ended, faulty, then_walk}
 
