@@ -6,7 +6,8 @@ Run at the top of the repository. It writes the pages again; with --check it wri
 is written in docs/ARCHITECTURE.md, in a row for each crate, lowest crate first, and so are the groups of the picture.
 
 It refuses a crates.txt with a dependency that no file of the crate names, or with a crate under another heading than the picture has it in: each line that
-begins with `#` is the heading of the crates below it.
+begins with `#` is the heading of the crates below it. What a crate uses of another one that passes it on (`pub use`) also names the crate that it is from,
+since a contract in the same file may need that one.
 """
 import os
 import re
@@ -23,6 +24,7 @@ LOOP = re.compile(r"(?<=^for name in )[^\n](?:[^\n]|\\\n)*(?=\ndo$)", re.MULTILI
 LINES = re.compile(r"(?<=^```text\n)bson_\w+:.*\n(?:.*\n)*?(?=\w+: anyhow bson$)", re.MULTILINE)
 COMMENT = {".rt": re.compile("//.*"), ".antt": re.compile("--.*")}
 # A crate is named by a path that begins with it, by a `use` of the crate itself, and by the path of a definition of its specs/ or proofs/.
+PASSED_ON = re.compile(r"\bpub use (\w+)::(?:(\w+)|\{([^{}]*)\});")
 NAMED = re.compile(r"(?<![\w:.])(\w+)::|\buse (?!Rattle\b)(\w+)|\bRattle\.(\w+)")
 
 
@@ -44,21 +46,34 @@ def crates():
     return lines, below, headings
 
 
-def named(name):
-    """What the files of a crate name."""
-    found = set()
-    for part in ("src", "specs", "proofs"):
+def texts(name, parts):
+    """The files of a crate in folders of it, without comments."""
+    for part in parts:
         for at, _, files in os.walk(f"crates/{name}/{part}"):
             for file in files:
-                text = COMMENT[os.path.splitext(file)[1]].sub("", read(f"{at}/{file}"))
-                found.update(word for words in NAMED.findall(text) for word in words)
+                yield COMMENT[os.path.splitext(file)[1]].sub("", read(f"{at}/{file}"))
+
+
+def passed_on(name):
+    """What a crate passes on, with the crate that it is from."""
+    return [(item, crate) for text in texts(name, ["src"]) for crate, one, more in PASSED_ON.findall(text) for item in re.findall(r"\w+", one or more)]
+
+
+def named(name, passed):
+    """What the files of a crate name."""
+    found = {word for text in texts(name, ["src", "specs", "proofs"]) for words in NAMED.findall(text) for word in words}
+    for text in texts(name, ["src"]):
+        for paths in re.findall(r"(?<![\w:.])\w+::[^;]*", text):
+            used = set(re.findall(r"\w+", paths))
+            found.update(crate for item, crate in passed.get(paths.partition("::")[0], ()) if item in used)
     return found
 
 
 def refusals(below, headings, architecture):
     """What is wrong with crates.txt, a line each."""
+    passed = {name: passed_on(name) for name in below}
     for name, names in below.items():
-        found = named(name)
+        found = named(name, passed)
         yield from (f"crates.txt: {name} does not name its dependency {other}" for other in names if other not in found)
     groups = {name: group for group, drawn in GROUP.findall(architecture) for name in DRAWN.findall(drawn)}
     for name, heading in headings.items():
