@@ -1,5 +1,5 @@
 // What is read of a document at a shape, its copies, and why it is refused: as `Debug` prints them.
-use bson_datum::Datum;
+use bson_datum::{Datum, RawArr, RawDoc};
 use bson_de_raw::from_slice_at;
 use bson_growing::boxed;
 use bson_lines::Lines;
@@ -33,15 +33,41 @@ fn owned<'x>(alloc: Global, datum: &Datum<'_>) -> Result<Datum<'x>, AllocError> 
 }
 
 /// Adds what a call gives, and drops it.
-fn add_given<T: Debug + Drop>(lines: &mut Lines, name: &str, given: T) {
+pub fn add_given<T: Debug + Drop>(lines: &mut Lines, name: &str, given: T) {
     lines.debug(name, &given);
 }
 
-/// Adds a datum, its copy and its owned copy.
+/// An owned copy of a document in its bytes.
+fn owned_document<'x>(alloc: Global, document: &RawDoc<'_>) -> Result<RawDoc<'x>, AllocError> {
+    document.try_clone(alloc)?.into_owned(alloc)
+}
+
+/// An owned copy of an array in its bytes.
+fn owned_array<'x>(alloc: Global, array: &RawArr<'_>) -> Result<RawArr<'x>, AllocError> {
+    array.try_clone(alloc)?.into_owned(alloc)
+}
+
+/// Adds the document in its bytes that the field `d` of a datum is, as an owned copy.
+fn add_raw_document(lines: &mut Lines, alloc: Global, datum: &Datum<'_>) {
+    if let Some(Datum::RawDocument(document)) = datum.field("d") {
+        lines.made("owned", owned_document(alloc, document));
+    }
+}
+
+/// Adds the array in its bytes that the field `r` of a datum is, as an owned copy.
+fn add_raw_array(lines: &mut Lines, alloc: Global, datum: &Datum<'_>) {
+    if let Some(Datum::RawArray(array)) = datum.field("r") {
+        lines.made("owned", owned_array(alloc, array));
+    }
+}
+
+/// Adds a datum, its copy and its owned copy, and owned copies of two parts.
 fn add_copies(lines: &mut Lines, alloc: Global, datum: Datum<'_>) {
     lines.debug("read", &datum);
     add_given(lines, "copy", datum.try_clone(alloc));
     add_given(lines, "owned", owned(alloc, &datum));
+    add_raw_document(lines, alloc, &datum);
+    add_raw_array(lines, alloc, &datum);
     drop(datum);
 }
 

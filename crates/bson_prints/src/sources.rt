@@ -3,7 +3,7 @@ use bson_de_source::{from_reader_at, from_reader_utf8_lossy_at};
 use bson_io::{MemorySource, Source};
 use bson_lines::Lines;
 use bson_shape::Shape;
-use bson_source::take_document;
+use bson_source::{TakeFault, take_document, take_up_to};
 use std::alloc::{AllocError, Global};
 
 /// The empty document, with a byte behind it.
@@ -17,7 +17,7 @@ fn source(alloc: Global, bytes: &[u8], failing: u64) -> Result<MemorySource, All
     Ok(MemorySource::new(bytes, failing, limits))
 }
 
-/// Adds what is left in a source, where it is at most a byte.
+/// Adds what is left in a source, or the first byte of it.
 fn add_left(lines: &mut Lines, source: &mut MemorySource) {
     let mut rest = [0; 2];
     lines.debug("left", &source.read(&mut rest));
@@ -49,6 +49,24 @@ fn add_taken(lines: &mut Lines, alloc: Global) {
     }
 }
 
+/// The first three bytes of a source.
+fn first_three(alloc: Global, source: &mut MemorySource) -> Result<Vec<u8>, TakeFault> {
+    let mut bytes = Vec::new(alloc);
+    take_up_to(&mut bytes, 3, source)?;
+    Ok(bytes)
+}
+
+/// Adds the first three bytes of a source, and one that is left in it.
+fn add_first(lines: &mut Lines, alloc: Global) {
+    match source(alloc, DOCUMENT, 0) {
+        Ok(mut source) => {
+            lines.debug("take_up_to", &first_three(alloc, &mut source));
+            add_left(lines, &mut source);
+        }
+        Err(error) => lines.text("no source", &error),
+    }
+}
+
 /// Adds what is read of a source with texts mended.
 fn add_mended(lines: &mut Lines, alloc: Global, shape: &Shape) {
     match source(alloc, DOCUMENT, 0) {
@@ -71,6 +89,7 @@ fn add_each(lines: &mut Lines, alloc: Global, shape: &Shape) {
 /// What is taken and read of sources.
 pub fn add_sources(lines: &mut Lines, alloc: Global) {
     add_taken(lines, alloc);
+    add_first(lines, alloc);
     match Shape::parse(alloc, "S{}") {
         Ok(shape) => {
             add_each(lines, alloc, &shape);

@@ -1,4 +1,5 @@
 // A map from texts to vectors of optional numbers, as the bytes of a document, as a value in memory and as a document in memory.
+use crate::values::add_value;
 use bson_base::Bson;
 use bson_de_tree::DeserializerOptions;
 use bson_io::MemorySource;
@@ -84,7 +85,7 @@ fn add_read(lines: &mut Lines, alloc: Global, value: Bson) {
 }
 
 /// Adds a table as a value in memory, and what is read of it.
-fn add_value(lines: &mut Lines, alloc: Global, table: &Table) {
+fn add_tree(lines: &mut Lines, alloc: Global, table: &Table) {
     match to_bson(alloc, table) {
         Ok(value) => {
             lines.debug("to_bson", &value);
@@ -95,7 +96,7 @@ fn add_value(lines: &mut Lines, alloc: Global, table: &Table) {
 }
 
 /// Adds the same in the compact form.
-fn add_compact_value(lines: &mut Lines, alloc: Global, table: &Table) {
+fn add_compact_tree(lines: &mut Lines, alloc: Global, table: &Table) {
     match to_bson_with_options(alloc, table, writing()) {
         Ok(value) => {
             lines.debug("to_bson_with_options", &value);
@@ -133,9 +134,10 @@ fn add_compact_document(lines: &mut Lines, alloc: Global, table: &Table) {
 /// Adds what is made of a table, and what is read of that.
 fn add_table(lines: &mut Lines, alloc: Global, table: &Table) {
     lines.debug("from_slice", table);
+    add_value::<BTreeMap<String, Vec<Option<i32>>>>(lines, alloc, table);
     add_bytes(lines, alloc, table);
-    add_value(lines, alloc, table);
-    add_compact_value(lines, alloc, table);
+    add_tree(lines, alloc, table);
+    add_compact_tree(lines, alloc, table);
     add_document(lines, alloc, table);
     add_compact_document(lines, alloc, table);
 }

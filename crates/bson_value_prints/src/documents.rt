@@ -31,10 +31,13 @@ fn tree(alloc: Global) -> Result<Document, Error> {
     RawDocument::from_bytes(HELLO)?.to_document(alloc)
 }
 
-/// Adds the elements of the tree that the bytes of a document are.
+/// Adds the elements of the tree that the bytes of a document are, and a copy of it.
 fn add_tree(lines: &mut Lines, alloc: Global) {
     match tree(alloc) {
-        Ok(document) => add_elements_of(lines, &document),
+        Ok(document) => {
+            add_elements_of(lines, &document);
+            lines.made("copy", document.try_clone(alloc));
+        }
         Err(fault) => lines.debug("no tree", &fault),
     }
 }

@@ -1,7 +1,7 @@
-// What the raw layer reads where there is memory: an element of every kind, and a text that is mended.
+// What the raw layer reads where there is memory: an element of every kind, a text that is mended, and the values of an array.
 use bson_base::Bson;
 use bson_lines::Lines;
-use bson_rawdoc::{RawDocument, RawElement};
+use bson_rawdoc::{RawBsonRef, RawDocument, RawElement};
 use std::alloc::Global;
 
 /// Documents of one element, under `k`: one for each kind.
@@ -75,6 +75,15 @@ fn add_mended(lines: &mut Lines, alloc: Global, element: &RawElement<'_>) {
     }
 }
 
+/// Adds the same by way of the text before it is judged.
+fn add_unjudged(lines: &mut Lines, alloc: Global, element: &RawElement<'_>) {
+    match element.unjudged() {
+        Ok(Some(value)) => lines.made("unjudged", value.to_bson_lossy(alloc)),
+        Ok(None) => lines.line("no text"),
+        Err(fault) => lines.debug("no value", &fault),
+    }
+}
+
 /// The document with the field `s`, a text of one byte that is not UTF-8.
 const ILL_FORMED: &[u8] = b"\x0e\0\0\0\x02s\0\x02\0\0\0\xff\0\0";
 
@@ -82,18 +91,42 @@ const ILL_FORMED: &[u8] = b"\x0e\0\0\0\x02s\0\x02\0\0\0\xff\0\0";
 fn add_lossy(lines: &mut Lines, alloc: Global, document: RawDocument<'_>) {
     for element in document.iter_elements() {
         match element {
-            Ok(element) => add_mended(lines, alloc, &element),
+            Ok(element) => {
+                add_mended(lines, alloc, &element);
+                add_unjudged(lines, alloc, &element);
+            }
             Err(fault) => lines.debug("no element", &fault),
         }
     }
 }
 
-/// An element of each kind, a text that is mended, and what `Debug` gives of a document.
+/// The document `{k: [null]}`.
+const ARRAY: &[u8] = b"\x10\0\0\0\x04k\0\x08\0\0\0\x0a0\0\0\0";
+
+/// Adds the values of the array under a key.
+fn add_values(lines: &mut Lines, alloc: Global, document: RawDocument<'_>) {
+    match document.get("k") {
+        Ok(Some(RawBsonRef::Array(array))) => lines.made("values", array.to_values(alloc)),
+        Ok(_) => lines.line("no array"),
+        Err(fault) => lines.debug("no value", &fault),
+    }
+}
+
+/// Adds the values of an array in a document.
+fn add_array(lines: &mut Lines, alloc: Global) {
+    match RawDocument::from_bytes(ARRAY) {
+        Ok(document) => add_values(lines, alloc, document),
+        Err(fault) => lines.debug("no document", &fault),
+    }
+}
+
+/// An element of each kind, a text that is mended, an array, and what `Debug` gives of a document.
 pub fn add_elements(lines: &mut Lines, alloc: Global) {
     add_kinds(lines);
     match RawDocument::from_bytes(ILL_FORMED) {
         Ok(document) => add_lossy(lines, alloc, document),
         Err(fault) => lines.debug("no document", &fault),
     }
+    add_array(lines, alloc);
     lines.debug("document", &RawDocument::from_bytes(&[5, 0, 0, 0, 0]));
 }

@@ -75,6 +75,27 @@ fn made(alloc: Global) -> Result<Shape, ShapeError> {
     choice(alloc, content(alloc, shape)?)
 }
 
+/// A shape of two forms, a mark on each.
+fn mode(alloc: Global) -> Result<Shape, ShapeError> {
+    let readable = Shape::readable(alloc, Shape::i32())?;
+    let compact = Shape::lossy(alloc, Shape::i32())?;
+    Shape::mode(alloc, readable, compact)
+}
+
+/// A reference to that shape, in a table that has it.
+fn referred(alloc: Global) -> Result<Shape, ShapeError> {
+    let table = fields(alloc, "a", mode(alloc)?)?;
+    Shape::definitions(alloc, table, Shape::reference(name(alloc, "a")?))
+}
+
+/// Adds a shape that was made.
+fn add_made(lines: &mut Lines, alloc: Global, made: Result<Shape, ShapeError>) {
+    match made {
+        Ok(shape) => lines.written("made", &shape.print(alloc)),
+        Err(error) => lines.debug("not made", &error),
+    }
+}
+
 /// Notations, each of which is printed as it was read.
 const NOTATIONS: [&str; 16] = [
     "i32",
@@ -120,10 +141,8 @@ fn add_levels(lines: &mut Lines, alloc: Global) {
 
 /// A shape that each maker had a part in, notations that are read and printed, and one that is refused.
 pub fn add_shapes(lines: &mut Lines, alloc: Global) {
-    match made(alloc) {
-        Ok(shape) => lines.written("made", &shape.print(alloc)),
-        Err(error) => lines.debug("not made", &error),
-    }
+    add_made(lines, alloc, made(alloc));
+    add_made(lines, alloc, referred(alloc));
     for text in NOTATIONS {
         add_parsed(lines, alloc, text);
     }

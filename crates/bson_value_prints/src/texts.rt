@@ -1,5 +1,6 @@
 // The texts of ObjectIds, UUIDs and dates, as their public formats have them.
 use bson_base::{DateTime, ObjectId, Uuid};
+use bson_dates::date_text;
 use bson_lines::Lines;
 use std::alloc::Global;
 
@@ -64,6 +65,7 @@ const MILLISECONDS: [i64; 7] = [
 /// Adds the text that a date is printed as.
 fn add_date_text(lines: &mut Lines, alloc: Global, milliseconds: i64) {
     lines.text("milliseconds", &milliseconds);
+    lines.made("date_text", date_text(alloc, milliseconds));
     match DateTime::from_millis(milliseconds).try_to_rfc3339_string(alloc) {
         Ok(text) => lines.named("printed", &text),
         Err(error) => {
