@@ -38,7 +38,8 @@ use Rattle.bson_laws.specs.ReadsExtended.{read_extended}
 use Rattle.bson_laws.specs.Containers.{reads_items, reads_entries, unit_of, reads_key, reads_unit, read_enum}
 use Rattle.bson_laws.specs.Slots.{read_structure}
 use Rattle.bson_laws.specs.Reads.{read_leaf, slots_of, reads, reads_parts, reads_variant, reads_content}
-use Rattle.bson_laws.specs.Settled.{IsSettled, AreFieldsSettled, ArePartsSettled}
+use Rattle.bson_laws.specs.Every.{EveryField, EveryPart}
+use Rattle.bson_laws.specs.Settled.{IsSettled, settled_rows}
 use Rattle.bson_laws.specs.Spell.{Writing, enclosed_at, variant_at, named, spell_number, spell_key, spell, spell_items, spell_entries, spell_fields}
 use Rattle.bson_laws.proofs.TreesAgain.{extended_comes}
 use Rattle.bson_laws.proofs.ShapeForms.{IsShape, AreShapes, AreParts, AreVariants, IsContent}
@@ -210,9 +211,7 @@ number_coded i16 n t h f e = short_coded n t (fits_i16 n h) e
 number_coded i32 n t h f e = short_coded n t (fits_i32 n h) e
 number_coded u8 n t h f e = short_coded n t (fits_u8 n h) e
 number_coded u16 n t h f e = short_coded n t (fits_u16 n h) e
-number_coded u32 n t h f e = wide_coded (int_lt (greatest i64) n) n t f e
-number_coded i64 n t h f e = wide_coded (int_lt (greatest i64) n) n t f e
-number_coded u64 n t h f e = wide_coded (int_lt (greatest i64) n) n t f e
+number_coded type n t h f e = wide_coded (int_lt (greatest i64) n) n t f e
 
 number_comes : (at : Sight) (l : Bool) (type : IntegerType) (n : ℤ) (levels : ℕ) (t : Tree) → in_range type n ≡ true → FitsSigned w64 n → spell_number (written_as type) n ≡ Ok t → LeafComes at l (numbers type) levels t
 number_comes at l type n levels t h f e =
@@ -509,7 +508,7 @@ mutual
         (first.3, rest.3),
       )
 
-  again_parts : (at : Sight) (vs : Items) (ps : Parts) (i n : ℕ) (ts : Trees) → AreParts ps → ArePartsSettled ps → PartsGiven at vs ps → AreShort i ts → spell_items i vs n ≡ Ok ts → (ms : MarkedItems) × (reads_parts ps i (tree_nodes at i ts n) ≡ Ok ms) × (spell_items i (item_contents ms) n ≡ Ok ts) × AreTreesCoded ts
+  again_parts : (at : Sight) (vs : Items) (ps : Parts) (i n : ℕ) (ts : Trees) → AreParts ps → EveryPart settled_rows ps → PartsGiven at vs ps → AreShort i ts → spell_items i vs n ≡ Ok ts → (ms : MarkedItems) × (reads_parts ps i (tree_nodes at i ts n) ≡ Ok ms) × (spell_items i (item_contents ms) n ≡ Ok ts) × AreTreesCoded ts
   again_parts at no_items no_parts i n ts p expected g small e = (no_items, refl, e, subst AreTreesCoded (ok_is no_trees ts e) tt)
   again_parts at (item v vs) (part s ps) i n ts p expected g small e =
       let a = bind_ok (under_index i (spell v n)) (λ t. spell_items (suc i) vs n >>= λ us. Ok (tree.tree t us)) ts e in
@@ -552,7 +551,7 @@ mutual
         (key_name at key k a.0 w g.0 (spell_key_ok k a.0 a.1), first.3, rest.3),
       )
 
-  again_fields : (at : Sight) (vs : FieldValues) (fs : Fields) (n : ℕ) (ps : Pairs) → AreShapes fs → AreFieldsSettled fs → Distinct fs → FieldsGiven at vs fs → ArePairsShort ps → spell_fields vs n ≡ Ok ps → FieldsSeen at fs n ps
+  again_fields : (at : Sight) (vs : FieldValues) (fs : Fields) (n : ℕ) (ps : Pairs) → AreShapes fs → EveryField settled_rows fs → Distinct fs → FieldsGiven at vs fs → ArePairsShort ps → spell_fields vs n ≡ Ok ps → FieldsSeen at fs n ps
   again_fields at no_field_values no_fields n ps p expected d g small e = subst (FieldsSeen at no_fields n) (ok_is no_pairs ps e) (no_field_values, refl, refl, tt, tt)
   again_fields at (field_value m v vs) (field name s fs) n ps p expected d g small e =
       let a = bind_ok (named m (spell v n)) (λ t. spell_fields vs n >>= λ qs. Ok (pair m t qs)) ps e in

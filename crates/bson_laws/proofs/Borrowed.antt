@@ -12,7 +12,8 @@ use Rattle.bson_values.specs.Value.{Value}
 use Rattle.bson_values.specs.Marked.{contents}
 use Rattle.bson_laws.specs.Leaves.{LeafKind, anything, ignored, booleans, numbers, doubles, characters, texts, byte_strings, byte_buffers, units, extended_values, raw_documents, raw_arrays, raw_values, leaf_kind}
 use Rattle.bson_laws.specs.Plain.{OwnsTextLeaf}
-use Rattle.bson_laws.proofs.PlainForms.{OwnsTexts, FieldsOwnTexts, PartsOwnTexts, VariantsOwnTexts, ContentOwnsTexts, IsPlain, AreFieldsPlain, ArePartsPlain, AreVariantsPlain, IsContentPlain}
+use Rattle.bson_laws.specs.Every.{EveryContent, EveryField, EveryPart, EveryVariant}
+use Rattle.bson_laws.proofs.PlainForms.{OwnsTexts, IsPlain, AreFieldsPlain, ArePartsPlain, AreVariantsPlain, IsContentPlain, text_rows}
 use Rattle.bson_laws.specs.ReadsLeaf.{borrows}
 use Rattle.bson_laws.specs.Taken.{borrow_or_own, owned_under_mark}
 use Rattle.bson_laws.proofs.Judged.{ReadAs}
@@ -80,18 +81,7 @@ leaf_from_input : (l : Bool) (k : LeafKind) → LeafBorrowed from_input l k
 leaf_from_input true texts = refl
 leaf_from_input false texts = tt
 leaf_from_input l byte_strings = refl
-leaf_from_input l anything = tt
-leaf_from_input l ignored = tt
-leaf_from_input l booleans = tt
-leaf_from_input l (numbers type) = tt
-leaf_from_input l doubles = tt
-leaf_from_input l characters = tt
-leaf_from_input l byte_buffers = tt
-leaf_from_input l units = tt
-leaf_from_input l (extended_values k) = tt
-leaf_from_input l raw_documents = tt
-leaf_from_input l raw_arrays = tt
-leaf_from_input l raw_values = tt
+leaf_from_input l k = tt
 
 mutual
   -- where no text is borrowed, byte strings alone are
@@ -112,19 +102,19 @@ mutual
   borrowed_owned at (reference name) e h = tt
   borrowed_owned at (definitions t s) e h = borrowed_owned at s e h
 
-  fields_owned : (at : Sight) (fs : Fields) → at.bytes ≡ true → FieldsOwnTexts fs → AreFieldsBorrowed at fs
+  fields_owned : (at : Sight) (fs : Fields) → at.bytes ≡ true → EveryField text_rows fs → AreFieldsBorrowed at fs
   fields_owned at no_fields e h = tt
   fields_owned at (field name s fs) e h = (borrowed_owned at s e h.0, fields_owned at fs e h.1)
 
-  parts_owned : (at : Sight) (ps : Parts) → at.bytes ≡ true → PartsOwnTexts ps → ArePartsBorrowed at ps
+  parts_owned : (at : Sight) (ps : Parts) → at.bytes ≡ true → EveryPart text_rows ps → ArePartsBorrowed at ps
   parts_owned at no_parts e h = tt
   parts_owned at (part s ps) e h = (borrowed_owned at s e h.0, parts_owned at ps e h.1)
 
-  variants_owned : (at : Sight) (vs : Variants) → at.bytes ≡ true → VariantsOwnTexts vs → AreVariantsBorrowed at vs
+  variants_owned : (at : Sight) (vs : Variants) → at.bytes ≡ true → EveryVariant text_rows vs → AreVariantsBorrowed at vs
   variants_owned at no_variants e h = tt
   variants_owned at (variant name c vs) e h = (content_owned at c e h.0, variants_owned at vs e h.1)
 
-  content_owned : (at : Sight) (c : Content) → at.bytes ≡ true → ContentOwnsTexts c → IsContentBorrowed at c
+  content_owned : (at : Sight) (c : Content) → at.bytes ≡ true → EveryContent text_rows c → IsContentBorrowed at c
   content_owned at unit_content e h = tt
   content_owned at (newtype_content s) e h = borrowed_owned at s e h
   content_owned at (tuple_content ps) e h = parts_owned at ps e h

@@ -38,6 +38,7 @@ pub mod Tame
 pub mod TameBytes
 pub mod Documents
 pub mod Enveloped
+pub mod Every
 pub mod Given
 pub mod Again
 pub mod ReadAgain

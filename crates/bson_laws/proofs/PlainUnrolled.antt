@@ -1,13 +1,15 @@
 -- A plain shape is unrolled to a plain form.
-use Rattle.std.proofs.Common.{ℕ, Bool, true, false, cond, ◌∙◌}
+use Rattle.std.proofs.Common.{ℕ, Bool, true, false, cond}
 use Rattle.std.specs.Str.{bytes_eq}
 use Rattle.bson_kinds.specs.Text.{Utf8}
 use Rattle.bson_shape.specs.Form.{Form, leaf, optional, lossy, human_readable, by_mode, sequence, newtype, unit_structure, map, tuple, tuple_structure, structure, enumeration, reference, definitions, Fields, no_fields, field, Parts, no_parts, part, Content, unit_content, newtype_content, tuple_content, struct_content, Variants, no_variants, variant}
 use Rattle.bson_laws.specs.Plain as plain
 use Rattle.bson_laws.specs.Plain.{OwnsTextsIn, FieldsOwnTextsIn, PartsOwnTextsIn, VariantsOwnTextsIn, ContentOwnsTextsIn, DefinitionsOwnTexts, IsPlainKey, IsPlainIn, AreFieldsPlainIn, AreDefinitionsPlainIn, ArePartsPlainIn, AreVariantsPlainIn, IsContentPlainIn}
 use Rattle.bson_laws.specs.Unrolled.{Meanings, unrolled, unrolled_name, unrolled_fields, unrolled_parts, unrolled_variants, unrolled_content, names_in, in_table, max_steps, whole}
-use Rattle.bson_laws.proofs.PlainForms.{OwnsTexts, FieldsOwnTexts, PartsOwnTexts, VariantsOwnTexts, ContentOwnsTexts, IsPlain, AreFieldsPlain, ArePartsPlain, AreVariantsPlain, IsContentPlain}
-use Rattle.bson_laws.proofs.Unrolling.{names_keep, units_unrolled}
+use Rattle.bson_laws.specs.Every.{EveryContent, EveryField, EveryPart, EveryVariant}
+use Rattle.bson_laws.proofs.PlainForms.{OwnsTexts, IsPlain, AreFieldsPlain, ArePartsPlain, AreVariantsPlain, IsContentPlain, text_rows}
+use Rattle.bson_laws.proofs.Unrolling.{names_keep}
+use Rattle.bson_laws.proofs.WritableUnrolled.{key_plain}
 
 -- no reference means a form that borrows a text
 abbrev AllOwn : Meanings → Type 0
@@ -16,11 +18,6 @@ AllOwn g = (name : Utf8) → OwnsTexts (g name)
 -- each reference means a plain form, and one that borrows no text if the definitions around borrow none
 abbrev AllPlain : Fields → Meanings → Type 0
 AllPlain around g = ((name : Utf8) → IsPlain (g name)) × (DefinitionsOwnTexts around → AllOwn g)
-
-key_plain : (m : ℕ) (key : Form) (g : Meanings) → IsPlainKey key → IsPlainKey (unrolled m key g)
-key_plain m (leaf l) g p = p
-key_plain m (enumeration vs) g p = units_unrolled m vs g ∙ p
-key_plain m s g p = absurd p
 
 module _ (m : ℕ) where
   mutual
@@ -48,19 +45,19 @@ module _ (m : ℕ) where
       by_case true x y = x
       by_case false x y = y
 
-    own_fields : (around : Type 0) (fs : Fields) (g : Meanings) → (around → AllOwn g) → FieldsOwnTextsIn around fs → FieldsOwnTexts (unrolled_fields m fs g)
+    own_fields : (around : Type 0) (fs : Fields) (g : Meanings) → (around → AllOwn g) → FieldsOwnTextsIn around fs → EveryField text_rows (unrolled_fields m fs g)
     own_fields a no_fields g h p = tt
     own_fields a (field name s fs) g h p = (own_unrolled a s g h p.0, own_fields a fs g h p.1)
 
-    own_parts : (around : Type 0) (ps : Parts) (g : Meanings) → (around → AllOwn g) → PartsOwnTextsIn around ps → PartsOwnTexts (unrolled_parts m ps g)
+    own_parts : (around : Type 0) (ps : Parts) (g : Meanings) → (around → AllOwn g) → PartsOwnTextsIn around ps → EveryPart text_rows (unrolled_parts m ps g)
     own_parts a no_parts g h p = tt
     own_parts a (part s ps) g h p = (own_unrolled a s g h p.0, own_parts a ps g h p.1)
 
-    own_variants : (around : Type 0) (vs : Variants) (g : Meanings) → (around → AllOwn g) → VariantsOwnTextsIn around vs → VariantsOwnTexts (unrolled_variants m vs g)
+    own_variants : (around : Type 0) (vs : Variants) (g : Meanings) → (around → AllOwn g) → VariantsOwnTextsIn around vs → EveryVariant text_rows (unrolled_variants m vs g)
     own_variants a no_variants g h p = tt
     own_variants a (variant name c vs) g h p = (own_content a c g h p.0, own_variants a vs g h p.1)
 
-    own_content : (around : Type 0) (c : Content) (g : Meanings) → (around → AllOwn g) → ContentOwnsTextsIn around c → ContentOwnsTexts (unrolled_content m c g)
+    own_content : (around : Type 0) (c : Content) (g : Meanings) → (around → AllOwn g) → ContentOwnsTextsIn around c → EveryContent text_rows (unrolled_content m c g)
     own_content a unit_content g h p = tt
     own_content a (newtype_content s) g h p = own_unrolled a s g h p
     own_content a (tuple_content ps) g h p = own_parts a ps g h p

@@ -18,7 +18,8 @@ use Rattle.bson_laws.specs.Plain.{IsPlainKey}
 use Rattle.bson_laws.specs.Variants.{content_of}
 use Rattle.bson_laws.specs.Spell.{enclosed_at, in_bytes, named, spell_key, spell, spell_items, spell_entries, spell_fields, IsWrittenUnlessLarge}
 use Rattle.bson_laws.specs.Written.{zero_free, with_scope}
-use Rattle.bson_laws.specs.Writable.{HoldsNoExpression, IsWritableLeaf, HasWritableKeys, FieldsHaveWritableKeys, PartsHaveWritableKeys, VariantsHaveWritableKeys, ContentHasWritableKeys}
+use Rattle.bson_laws.specs.Every.{EveryContent, EveryField, EveryPart, EveryVariant}
+use Rattle.bson_laws.specs.Writable.{HoldsNoExpression, IsWritableLeaf, HasWritableKeys, writable_rows}
 use Rattle.bson_laws.specs.Datum.{datum, itself}
 use Rattle.bson_laws.proofs.ShapeForms.{IsShape, AreShapes, AreParts, AreVariants, IsContent}
 use Rattle.bson_laws.proofs.DatumNormal.{same_kind}
@@ -169,12 +170,12 @@ key_written at s k plain g = absurd plain
 
 -- ---- variants
 
-chosen_writable : (b : Bool) (c d : Content) (o : Option Content) → IsContent c × ContentHasWritableKeys c → cond b (Some c) o ≡ Some d → (o ≡ Some d → IsContent d × ContentHasWritableKeys d) → IsContent d × ContentHasWritableKeys d
-chosen_writable true c d o p e h = subst (λ x. IsContent x × ContentHasWritableKeys x) (some_is c d e) p
+chosen_writable : (b : Bool) (c d : Content) (o : Option Content) → IsContent c × EveryContent writable_rows c → cond b (Some c) o ≡ Some d → (o ≡ Some d → IsContent d × EveryContent writable_rows d) → IsContent d × EveryContent writable_rows d
+chosen_writable true c d o p e h = subst (λ x. IsContent x × EveryContent writable_rows x) (some_is c d e) p
 chosen_writable false c d o p e h = h e
 
 -- the contents of a variant have writable keys
-content_writable : (vs : Variants) (name : Utf8) (c : Content) → AreVariants vs → VariantsHaveWritableKeys vs → content_of vs name ≡ Some c → IsContent c × ContentHasWritableKeys c
+content_writable : (vs : Variants) (name : Utf8) (c : Content) → AreVariants vs → EveryVariant writable_rows vs → content_of vs name ≡ Some c → IsContent c × EveryContent writable_rows c
 content_writable no_variants name c p w e = absurd (no_some e)
 content_writable (variant n d vs) name c p w e = chosen_writable (bytes_eq n name) d c (content_of vs name) (p.1, w.0) e (content_writable vs name c p.2 w.1)
 
@@ -213,7 +214,7 @@ mutual
   items_written at no_items s i p c g levels = tt
   items_written at (item v vs) s i p c g levels = item_written i v vs (written at v s p c g.0) (items_written at vs s (suc i) p c g.1) levels
 
-  parts_written : (at : Sight) (vs : Items) (ps : Parts) (i : ℕ) → AreParts ps → PartsHaveWritableKeys ps → PartsGiven at vs ps → ItemsWritten i vs
+  parts_written : (at : Sight) (vs : Items) (ps : Parts) (i : ℕ) → AreParts ps → EveryPart writable_rows ps → PartsGiven at vs ps → ItemsWritten i vs
   parts_written at no_items no_parts i p c g levels = tt
   parts_written at (item v vs) (part s ps) i p c g levels = item_written i v vs (written at v s p.0 c.0 g.0) (parts_written at vs ps (suc i) p.1 c.1 g.1) levels
   parts_written at vs ps i p c g levels = absurd g
@@ -222,7 +223,7 @@ mutual
   entries_written at no_entries key s p k c g levels = tt
   entries_written at (entry x v es) key s p k c g levels = entry_written x v es (key_written at key x k g.0) (written at v s p c g.1) (entries_written at es key s p k c g.2) levels
 
-  fields_written : (at : Sight) (vs : FieldValues) (fs : Fields) → AreShapes fs → FieldsHaveWritableKeys fs → FieldsGiven at vs fs → FieldsWritten vs
+  fields_written : (at : Sight) (vs : FieldValues) (fs : Fields) → AreShapes fs → EveryField writable_rows fs → FieldsGiven at vs fs → FieldsWritten vs
   fields_written at no_field_values no_fields p c g levels = tt
   fields_written at (field_value m v vs) (field n s fs) p c g levels = next_written m v vs (ap has_zero g.0 ∙ c.0) (written at v s p.1 c.1 g.1) (fields_written at vs fs p.2 c.2 g.2) levels
   fields_written at vs fs p c g levels = absurd g

@@ -4,8 +4,9 @@ use Rattle.std.specs.Prelude.{◌≡◌, true, false, None}
 use Rattle.std.specs.Str.{is_utf8}
 use Rattle.bson_kinds.specs.Text.{Utf8}
 use Rattle.bson_kinds.specs.Reserved.{reserved_kind}
-use Rattle.bson_shape.specs.Form.{Form, leaf, optional, lossy, human_readable, by_mode, sequence, newtype, unit_structure, map, tuple, tuple_structure, structure, enumeration, reference, definitions, Fields, no_fields, field, Parts, no_parts, part, Content, unit_content, newtype_content, tuple_content, struct_content, Variants, no_variants, variant}
+use Rattle.bson_shape.specs.Form.{Form, newtype, unit_structure, tuple_structure, structure, enumeration, Fields, Parts, Content, struct_content, Variants}
 use Rattle.bson_shape.specs.Makers.{AreDistinct, has_repeat, variant_names, is_reserved_newtype, is_text_key}
+use Rattle.bson_laws.specs.Every.{Rows, asking_nothing, Every, EveryField, EveryPart, EveryVariant, EveryContent}
 
 -- a newtype
 pub record IsNewtype (name : Utf8) : Type 0 where
@@ -18,40 +19,43 @@ pub record IsStruct (name : Utf8) (fields : Fields) : Type 0 where
   pub free : reserved_kind name ≡ None
   pub distinct : AreDistinct fields
 
-abbrev mutual
-  -- what the makers of shapes ask of a form that is unrolled
-  pub IsShape : Form → Type 0
-  IsShape (leaf l) = Unit {0}
-  IsShape (optional f) = IsShape f
-  IsShape (lossy f) = IsShape f
-  IsShape (human_readable f) = IsShape f
-  IsShape (sequence f) = IsShape f
-  IsShape (map k v) = (is_text_key k ≡ true) × IsShape k × IsShape v
-  IsShape (by_mode r c) = IsShape r × IsShape c
-  IsShape (tuple ps) = AreParts ps
-  IsShape (tuple_structure name ps) = (is_utf8 name ≡ true) × AreParts ps
-  IsShape (newtype name f) = IsNewtype name × IsShape f
-  IsShape (unit_structure name) = is_utf8 name ≡ true
-  IsShape (structure u name fs) = IsStruct name fs × AreShapes fs
-  IsShape (enumeration vs) = (has_repeat (variant_names vs) ≡ false) × AreVariants vs
-  IsShape (reference name) = Unit {0}
-  IsShape (definitions h f) = IsShape f
+-- each name is a text, and none is reserved or there twice
+abbrev IsShapeForm : Form → (inside : Type 0) → Type 0
+IsShapeForm (tuple_structure name ps) inside = (is_utf8 name ≡ true) × inside
+IsShapeForm (newtype name f) inside = IsNewtype name × inside
+IsShapeForm (unit_structure name) inside = is_utf8 name ≡ true
+IsShapeForm (structure u name fs) inside = IsStruct name fs × inside
+IsShapeForm (enumeration vs) inside = (has_repeat (variant_names vs) ≡ false) × inside
+IsShapeForm f inside = inside
 
-  pub AreShapes : Fields → Type 0
-  AreShapes no_fields = Unit {0}
-  AreShapes (field name f fs) = (is_utf8 name ≡ true) × IsShape f × AreShapes fs
+-- the fields of a struct variant have different names
+abbrev IsShapeContent : Content → (inside : Type 0) → Type 0
+IsShapeContent (struct_content fs) inside = AreDistinct fs × inside
+IsShapeContent c inside = inside
 
-  pub AreParts : Parts → Type 0
-  AreParts no_parts = Unit {0}
-  AreParts (part f ps) = IsShape f × AreParts ps
+-- and so are those of fields and variants; a key is a text
+abbrev pub shape_rows : Rows
+shape_rows = record asking_nothing {
+  of_form = IsShapeForm;
+  of_map = λ key in_key in_value. (is_text_key key ≡ true) × in_key × in_value;
+  of_definitions = λ in_fields in_forms in_body. in_body;
+  of_field = λ name in_form in_rest. (is_utf8 name ≡ true) × in_form × in_rest;
+  of_variant = λ name in_content in_rest. (is_utf8 name ≡ true) × in_content × in_rest;
+  of_content = IsShapeContent;
+}
 
-  pub AreVariants : Variants → Type 0
-  AreVariants no_variants = Unit {0}
-  AreVariants (variant name c vs) = (is_utf8 name ≡ true) × IsContent c × AreVariants vs
+-- what the makers of shapes ask of a form that is unrolled
+abbrev pub IsShape : Form → Type 0
+IsShape = Every shape_rows
 
-  -- the fields of a struct variant have different names
-  pub IsContent : Content → Type 0
-  IsContent unit_content = Unit {0}
-  IsContent (newtype_content f) = IsShape f
-  IsContent (tuple_content ps) = AreParts ps
-  IsContent (struct_content fs) = AreDistinct fs × AreShapes fs
+abbrev pub AreShapes : Fields → Type 0
+AreShapes = EveryField shape_rows
+
+abbrev pub AreParts : Parts → Type 0
+AreParts = EveryPart shape_rows
+
+abbrev pub AreVariants : Variants → Type 0
+AreVariants = EveryVariant shape_rows
+
+abbrev pub IsContent : Content → Type 0
+IsContent = EveryContent shape_rows

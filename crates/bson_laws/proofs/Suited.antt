@@ -7,7 +7,8 @@ use Rattle.bson_laws.specs.declared.origin.Origin.TheVariants as origins
 use Rattle.bson_laws.specs.Leaves.{LeafKind, anything, ignored, booleans, numbers, doubles, characters, texts, byte_strings, byte_buffers, units, extended_values, raw_documents, raw_arrays, raw_values, leaf_kind}
 use Rattle.bson_laws.specs.Owned.{IsLeafOwned}
 use Rattle.bson_laws.specs.ReadsLeaf.{borrows}
-use Rattle.bson_laws.specs.SuitsTrees.{SuitsTrees, FieldsSuitTrees, PartsSuitTrees, VariantsSuitTrees, ContentSuitsTrees}
+use Rattle.bson_laws.specs.Every.{EveryContent, EveryField, EveryPart, EveryVariant}
+use Rattle.bson_laws.specs.SuitsTrees.{SuitsTrees, trees_rows}
 use Rattle.bson_laws.proofs.Borrowed.{LeafBorrowed, IsBorrowed, AreFieldsBorrowed, ArePartsBorrowed, AreVariantsBorrowed, IsContentBorrowed, marked}
 
 -- in bytes a leaf has what it borrows; from a tree it borrows nothing
@@ -121,19 +122,19 @@ mutual
   tree_suits at (reference name) h = tt
   tree_suits at (definitions t s) h = tree_suits at s h.1
 
-  fields_tree_suit : (at : Sight) (fs : Fields) → FieldsSuitTrees fs → FieldsSuit origins.Tree at fs
+  fields_tree_suit : (at : Sight) (fs : Fields) → EveryField trees_rows fs → FieldsSuit origins.Tree at fs
   fields_tree_suit at no_fields h = tt
   fields_tree_suit at (field name s fs) h = (tree_suits at s h.0, fields_tree_suit at fs h.1)
 
-  parts_tree_suit : (at : Sight) (ps : Parts) → PartsSuitTrees ps → PartsSuit origins.Tree at ps
+  parts_tree_suit : (at : Sight) (ps : Parts) → EveryPart trees_rows ps → PartsSuit origins.Tree at ps
   parts_tree_suit at no_parts h = tt
   parts_tree_suit at (part s ps) h = (tree_suits at s h.0, parts_tree_suit at ps h.1)
 
-  variants_tree_suit : (at : Sight) (vs : Variants) → VariantsSuitTrees vs → VariantsSuit origins.Tree at vs
+  variants_tree_suit : (at : Sight) (vs : Variants) → EveryVariant trees_rows vs → VariantsSuit origins.Tree at vs
   variants_tree_suit at no_variants h = tt
   variants_tree_suit at (variant name c vs) h = (content_tree_suits at c h.0, variants_tree_suit at vs h.1)
 
-  content_tree_suits : (at : Sight) (c : Content) → ContentSuitsTrees c → ContentSuits origins.Tree at c
+  content_tree_suits : (at : Sight) (c : Content) → EveryContent trees_rows c → ContentSuits origins.Tree at c
   content_tree_suits at unit_content h = tt
   content_tree_suits at (newtype_content s) h = tree_suits at s h
   content_tree_suits at (tuple_content no_parts) h = absurd h
@@ -149,18 +150,7 @@ text_borrows at false h = tt
 owned_borrowed : (at : Sight) (l : Bool) (k : LeafKind) → IsLeafOwned l k → LeafBorrowed at l k
 owned_borrowed at l texts h = text_borrows at l h
 owned_borrowed at l byte_strings h = absurd h
-owned_borrowed at l anything h = tt
-owned_borrowed at l ignored h = tt
-owned_borrowed at l booleans h = tt
-owned_borrowed at l (numbers type) h = tt
-owned_borrowed at l doubles h = tt
-owned_borrowed at l characters h = tt
-owned_borrowed at l byte_buffers h = tt
-owned_borrowed at l units h = tt
-owned_borrowed at l (extended_values k) h = tt
-owned_borrowed at l raw_documents h = tt
-owned_borrowed at l raw_arrays h = tt
-owned_borrowed at l raw_values h = tt
+owned_borrowed at l k h = tt
 
 -- what suits an origin borrows nothing that may not be borrowed
 pub suits_borrowed : (o : Origin) (at : Sight) (l : Bool) (k : LeafKind) → LeafSuits o at l k → LeafBorrowed at l k

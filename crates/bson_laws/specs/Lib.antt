@@ -9,6 +9,7 @@ pub mod Views
 pub mod Means
 pub mod InRange
 pub mod Encodable
+pub mod Every
 pub mod Fits
 pub mod Plain
 pub mod Writable

@@ -1,6 +1,8 @@
 -- The form of a shape once it is known whether the reader is human. Source: serde's `is_human_readable`.
 use Rattle.std.specs.Prelude.{Bool, true, if◌then◌else◌}
 use Rattle.bson_shape.specs.Form.{Form, leaf, optional, lossy, human_readable, by_mode, sequence, newtype, unit_structure, map, tuple, tuple_structure, structure, enumeration, reference, definitions, Fields, no_fields, field, Parts, no_parts, part, Content, unit_content, newtype_content, tuple_content, struct_content, Variants, no_variants, variant}
+use Rattle.bson_shape.specs.declared.leaf.Leaf.{Leaf}
+use Rattle.bson_laws.specs.Every.{Rows, asking_nothing, Every}
 
 -- of two forms the one that applies, for each reader
 abbrev pub alike : Form → Form
@@ -44,39 +46,19 @@ abbrev mutual
   settled_content readable (tuple_content ps) = tuple_content (settled_parts readable ps)
   settled_content readable (struct_content fs) = struct_content (settled_fields readable fs)
 
-abbrev mutual
-  -- no form in the form depends on whether the reader is human: it is settled as it stands
-  pub IsSettled : Form → Type 0
-  IsSettled (leaf l) = Unit {0}
-  IsSettled (optional s) = IsSettled s
-  IsSettled (lossy s) = IsSettled s
-  IsSettled (human_readable s) = ⊥
-  IsSettled (by_mode r c) = ⊥
-  IsSettled (sequence s) = IsSettled s
-  IsSettled (map key s) = IsSettled s
-  IsSettled (tuple ps) = ArePartsSettled ps
-  IsSettled (tuple_structure name ps) = ArePartsSettled ps
-  IsSettled (newtype name s) = IsSettled s
-  IsSettled (unit_structure name) = Unit {0}
-  IsSettled (structure u name fs) = AreFieldsSettled fs
-  IsSettled (enumeration vs) = AreVariantsSettled vs
-  IsSettled (reference name) = Unit {0}
-  IsSettled (definitions h s) = AreFieldsSettled h × IsSettled s
+-- the form is none of two, and no mark for a reader who is human
+abbrev pub IsSettledForm : Form → (inside : Type 0) → Type 0
+IsSettledForm (human_readable s) inside = ⊥
+IsSettledForm (by_mode r c) inside = ⊥
+IsSettledForm s inside = inside
 
-  pub AreFieldsSettled : Fields → Type 0
-  AreFieldsSettled no_fields = Unit {0}
-  AreFieldsSettled (field name s fs) = IsSettled s × AreFieldsSettled fs
+-- nothing is asked of the key of a map
+abbrev pub settled_rows : Rows
+settled_rows = record asking_nothing {
+  of_form = IsSettledForm;
+  of_map = λ (key : Form) (in_key in_value : Type 0). in_value;
+}
 
-  pub ArePartsSettled : Parts → Type 0
-  ArePartsSettled no_parts = Unit {0}
-  ArePartsSettled (part s ps) = IsSettled s × ArePartsSettled ps
-
-  pub AreVariantsSettled : Variants → Type 0
-  AreVariantsSettled no_variants = Unit {0}
-  AreVariantsSettled (variant name c vs) = IsContentSettled c × AreVariantsSettled vs
-
-  pub IsContentSettled : Content → Type 0
-  IsContentSettled unit_content = Unit {0}
-  IsContentSettled (newtype_content s) = IsSettled s
-  IsContentSettled (tuple_content ps) = ArePartsSettled ps
-  IsContentSettled (struct_content fs) = AreFieldsSettled fs
+-- no form in the form depends on whether the reader is human: it is settled as it stands
+abbrev pub IsSettled : Form → Type 0
+IsSettled = Every settled_rows

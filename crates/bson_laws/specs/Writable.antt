@@ -1,11 +1,14 @@
 -- The shapes at which each value that is read is written again, unless it is too large. Source: bsonspec.org, version 1.1, `document` and `e_name`.
 use Rattle.std.specs.Prelude.{◌≡◌, false}
-use Rattle.bson_kinds.specs.Text.{has_zero}
-use Rattle.bson_shape.specs.Form.{Form, leaf, optional, lossy, human_readable, by_mode, sequence, newtype, unit_structure, map, tuple, tuple_structure, structure, enumeration, reference, definitions, Fields, no_fields, field, Parts, no_parts, part, Content, unit_content, newtype_content, tuple_content, struct_content, Variants, no_variants, variant}
+use Rattle.bson_kinds.specs.Text.{Utf8, has_zero}
+use Rattle.bson_shape.specs.Form.{Form, leaf, optional, lossy, human_readable, by_mode, newtype, definitions}
+use Rattle.bson_shape.specs.declared.leaf.Leaf.{Leaf}
 use Rattle.bson_kinds.specs.declared.element_type.ElementType.TheVariants.{RegularExpression, JavaScriptCodeWithScope, EmbeddedDocument, Array}
 use Rattle.bson_kinds.specs.declared.element_type.ElementType.{ElementType}
 use Rattle.bson_laws.specs.Leaves.{LeafKind, ignored, extended_values, of_kind, trees, documents, leaf_kind}
+use Rattle.bson_laws.specs.Every.{Rows, Every}
 use Rattle.bson_laws.specs.Plain.{IsPlainKey}
+use Rattle.bson_laws.specs.Settled.{settled_rows}
 use Rattle.bson_laws.specs.Unrolled.{whole}
 
 -- no value of the kind is or holds a regular expression
@@ -24,49 +27,20 @@ IsWritableLeaf (extended_values trees) = ⊥
 IsWritableLeaf (extended_values documents) = ⊥
 IsWritableLeaf k = Unit {0}
 
-abbrev mutual
-  -- Each field's name is a cstring, which holds no zero character, and each map has texts or unit variants as its keys. The name of a
-  -- variant needs no such condition: as a key it was read from a key, which holds no zero character, and elsewhere it is written as a text. Forms that depend
-  -- on whether the reader is human are left out.
-  pub HasWritableKeys : Form → Type 0
-  HasWritableKeys (leaf l) = IsWritableLeaf (leaf_kind l)
-  HasWritableKeys (optional s) = HasWritableKeys s
-  HasWritableKeys (lossy s) = HasWritableKeys s
-  HasWritableKeys (human_readable s) = ⊥
-  HasWritableKeys (by_mode readable compact) = ⊥
-  HasWritableKeys (sequence s) = HasWritableKeys s
-  HasWritableKeys (newtype name s) = HasWritableKeys s
-  HasWritableKeys (unit_structure name) = Unit {0}
-  HasWritableKeys (map key s) = IsPlainKey key × HasWritableKeys s
-  HasWritableKeys (tuple ps) = PartsHaveWritableKeys ps
-  HasWritableKeys (tuple_structure name ps) = PartsHaveWritableKeys ps
-  HasWritableKeys (enumeration vs) = VariantsHaveWritableKeys vs
-  HasWritableKeys (structure u name fs) = FieldsHaveWritableKeys fs
-  HasWritableKeys (reference name) = Unit {0}
-  HasWritableKeys (definitions h s) = DefinitionsHaveWritableKeys h × HasWritableKeys s
+-- each map has texts or unit variants as its keys, and each field's name holds no zero character
+abbrev pub writable_rows : Rows
+writable_rows = record settled_rows {
+  of_leaf = λ (l : Leaf). IsWritableLeaf (leaf_kind l);
+  of_map = λ (key : Form) (in_key in_value : Type 0). IsPlainKey key × in_value;
+  of_definitions = λ (in_fields in_forms in_body : Type 0). in_forms × in_body;
+  of_field = λ (name : Utf8) (in_form in_rest : Type 0). (has_zero name ≡ false) × in_form × in_rest;
+}
 
-  pub FieldsHaveWritableKeys : Fields → Type 0
-  FieldsHaveWritableKeys no_fields = Unit {0}
-  FieldsHaveWritableKeys (field name s fs) = (has_zero name ≡ false) × HasWritableKeys s × FieldsHaveWritableKeys fs
-
-  -- the name of a definition is never written
-  pub DefinitionsHaveWritableKeys : Fields → Type 0
-  DefinitionsHaveWritableKeys no_fields = Unit {0}
-  DefinitionsHaveWritableKeys (field name s h) = HasWritableKeys s × DefinitionsHaveWritableKeys h
-
-  pub PartsHaveWritableKeys : Parts → Type 0
-  PartsHaveWritableKeys no_parts = Unit {0}
-  PartsHaveWritableKeys (part s ps) = HasWritableKeys s × PartsHaveWritableKeys ps
-
-  pub VariantsHaveWritableKeys : Variants → Type 0
-  VariantsHaveWritableKeys no_variants = Unit {0}
-  VariantsHaveWritableKeys (variant name c vs) = ContentHasWritableKeys c × VariantsHaveWritableKeys vs
-
-  pub ContentHasWritableKeys : Content → Type 0
-  ContentHasWritableKeys unit_content = Unit {0}
-  ContentHasWritableKeys (newtype_content s) = HasWritableKeys s
-  ContentHasWritableKeys (tuple_content ps) = PartsHaveWritableKeys ps
-  ContentHasWritableKeys (struct_content fs) = FieldsHaveWritableKeys fs
+-- Each field's name is a cstring, which holds no zero character, and each map has texts or unit variants as its keys. The name of a
+-- variant needs no such condition: as a key it was read from a key, which holds no zero character, and elsewhere it is written as a text. Nor does the name
+-- of a definition, which is never written. Forms that depend on whether the reader is human are left out.
+abbrev pub HasWritableKeys : Form → Type 0
+HasWritableKeys = Every writable_rows
 
 -- what a leaf reads from a document is a document: not the unit that an ignored value leaves, nor an extended value that a document stands for
 abbrev pub KeepsDocumentLeaf : LeafKind → Type 0

@@ -9,7 +9,8 @@ use Rattle.bson_laws.specs.Leaves.{leaf_kind}
 use Rattle.bson_laws.specs.Owned.{IsLeafOwned}
 use Rattle.bson_laws.specs.Plain.{IsKept, IsPlainIn, AreFieldsPlainIn}
 use Rattle.bson_laws.specs.ReadsLeaf.{borrows}
-use Rattle.bson_laws.specs.SuitsTrees.{SuitsTrees, FieldsSuitTrees}
+use Rattle.bson_laws.specs.Every.{EveryField}
+use Rattle.bson_laws.specs.SuitsTrees.{SuitsTrees, trees_rows}
 use Rattle.bson_laws.specs.Unrolled.{Meanings, unrolled, unrolled_fields}
 use Rattle.bson_moved.specs.Simple.{is_simple, are_simple, is_simple_leaf}
 
@@ -55,18 +56,7 @@ mutual
   plain around (sequence s) h = plain around s h
   plain around (structure dropped name fs) h = let parts = both (is_free_name name) (are_simple fs) h in
       (free_name name parts.0, fields_plain around fs parts.1)
-  plain around (structure denied name fs) h = absurd cc
-  plain around (lossy s) h = absurd cc
-  plain around (human_readable s) h = absurd cc
-  plain around (by_mode r c) h = absurd cc
-  plain around (newtype name s) h = absurd cc
-  plain around (unit_structure name) h = absurd cc
-  plain around (map key s) h = absurd cc
-  plain around (tuple ps) h = absurd cc
-  plain around (tuple_structure name ps) h = absurd cc
-  plain around (enumeration vs) h = absurd cc
-  plain around (reference name) h = absurd cc
-  plain around (definitions table s) h = absurd cc
+  plain around s h = absurd cc
 
   pub fields_plain : (around : Fields) (fs : Fields) → are_simple fs ≡ true → AreFieldsPlainIn around fs
   fields_plain around no_fields h = tt
@@ -80,20 +70,9 @@ mutual
   suits (optional s) h = suits s h
   suits (sequence s) h = suits s h
   suits (structure dropped name fs) h = fields_suit fs (both (is_free_name name) (are_simple fs) h).1
-  suits (structure denied name fs) h = absurd cc
-  suits (lossy s) h = absurd cc
-  suits (human_readable s) h = absurd cc
-  suits (by_mode r c) h = absurd cc
-  suits (newtype name s) h = absurd cc
-  suits (unit_structure name) h = absurd cc
-  suits (map key s) h = absurd cc
-  suits (tuple ps) h = absurd cc
-  suits (tuple_structure name ps) h = absurd cc
-  suits (enumeration vs) h = absurd cc
-  suits (reference name) h = absurd cc
-  suits (definitions table s) h = absurd cc
+  suits s h = absurd cc
 
-  pub fields_suit : (fs : Fields) → are_simple fs ≡ true → FieldsSuitTrees fs
+  pub fields_suit : (fs : Fields) → are_simple fs ≡ true → EveryField trees_rows fs
   fields_suit no_fields h = tt
   fields_suit (field name s fs) h =
       let parts = field_parts name s fs h in
@@ -105,18 +84,7 @@ mutual
   alone rounds g (optional s) h = ap optional (alone rounds g s h)
   alone rounds g (sequence s) h = ap sequence (alone rounds g s h)
   alone rounds g (structure dropped name fs) h = ap (structure dropped name) (fields_alone rounds g fs (both (is_free_name name) (are_simple fs) h).1)
-  alone rounds g (structure denied name fs) h = absurd cc
-  alone rounds g (lossy s) h = absurd cc
-  alone rounds g (human_readable s) h = absurd cc
-  alone rounds g (by_mode r c) h = absurd cc
-  alone rounds g (newtype name s) h = absurd cc
-  alone rounds g (unit_structure name) h = absurd cc
-  alone rounds g (map key s) h = absurd cc
-  alone rounds g (tuple ps) h = absurd cc
-  alone rounds g (tuple_structure name ps) h = absurd cc
-  alone rounds g (enumeration vs) h = absurd cc
-  alone rounds g (reference name) h = absurd cc
-  alone rounds g (definitions table s) h = absurd cc
+  alone rounds g s h = absurd cc
 
   pub fields_alone : (rounds : ℕ) (g : Meanings) (fs : Fields) → are_simple fs ≡ true → unrolled_fields rounds fs g ≡ fs
   fields_alone rounds g no_fields h = refl

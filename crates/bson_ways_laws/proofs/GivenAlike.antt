@@ -31,7 +31,8 @@ use Rattle.bson_laws.proofs.ShapeForms.{IsShape, AreShapes, AreParts, AreVariant
 use Rattle.bson_laws.proofs.Sizes.{ok_is, enclosed_ok, variant_ok, inside_ok, under_ok, named_ok, spell_key_ok}
 use Rattle.bson_laws.proofs.TreesAgain.{datum_spelled}
 use Rattle.bson_tree_laws.specs.Alike.{HasFreeKeys, PairsHaveFreeKeys, TreesHaveFreeKeys, IsWrap, IsTextKey, IsAlike, AreAlike, EntriesAlike, FieldsAlike}
-use Rattle.bson_ways_laws.specs.Ways.{IsBuilt, SuitsBothWays, FieldsSuitBothWays, PartsSuitBothWays, VariantsSuitBothWays, ContentSuitsBothWays, HasCommonKeys, PairsHaveCommonKeys, TreesHaveCommonKeys}
+use Rattle.bson_laws.specs.Every.{EveryContent, EveryField, EveryPart, EveryVariant}
+use Rattle.bson_ways_laws.specs.Ways.{IsBuilt, SuitsBothWays, HasCommonKeys, PairsHaveCommonKeys, TreesHaveCommonKeys, ways_rows}
 use Rattle.bson_tree_laws.proofs.Puts.{unlike_sym}
 use Rattle.bson_tree_laws.proofs.Wraps.{kept}
 use Rattle.bson_kinds.proofs.Apart.{no_some}
@@ -192,7 +193,6 @@ mutual
   tree_alike : (t : Tree) → IsGivenTree t → IsAlike (datum itself t)
   tree_alike (tree.document ps) g = pairs_alike ps g
   tree_alike (tree.array ts) g = trees_alike ts g
-  tree_alike (tree.binary zero b) g = tt
   tree_alike (tree.binary (suc n) b) g = ((tree.binary (suc n) b, g.0, refl), ((tt, (tt, (tt, tt))), tt))
   tree_alike tree.undefined g = ((tree.undefined, tt, refl), (tt, tt))
   tree_alike (tree.object_id id) g = ((tree.object_id id, tt, refl), (tt, tt))
@@ -206,13 +206,7 @@ mutual
   tree_alike (tree.decimal128 b) g = ((tree.decimal128 b, tt, refl), (tt, tt))
   tree_alike tree.max_key g = ((tree.max_key, tt, refl), (tt, tt))
   tree_alike tree.min_key g = ((tree.min_key, tt, refl), (tt, tt))
-  tree_alike (tree.double b) g = tt
-  tree_alike (tree.string b) g = tt
-  tree_alike (tree.boolean b) g = tt
-  tree_alike tree.null g = tt
-  tree_alike (tree.int32 b) g = tt
-  tree_alike (tree.int64 b) g = tt
-  tree_alike (tree.raw k b) g = tt
+  tree_alike t g = tt
 
   pairs_alike : (ps : Pairs) → ArePairsGiven ps → EntriesAlike (pair_data itself ps)
   pairs_alike no_pairs g = tt
@@ -319,11 +313,11 @@ content_is : (vs : Variants) (name : Utf8) (c : Content) → AreVariants vs → 
 content_is no_variants name c p e = absurd (no_some e)
 content_is (variant n d vs) name c p e = chosen_content (bytes_eq n name) d c (content_of vs name) p.1 e (content_is vs name c p.2)
 
-chosen_suits : (b : Bool) (c d : Content) (o : Option Content) → ContentSuitsBothWays c → cond b (Some c) o ≡ Some d → (o ≡ Some d → ContentSuitsBothWays d) → ContentSuitsBothWays d
-chosen_suits true c d o p e h = subst ContentSuitsBothWays (some_is c d e) p
+chosen_suits : (b : Bool) (c d : Content) (o : Option Content) → EveryContent ways_rows c → cond b (Some c) o ≡ Some d → (o ≡ Some d → EveryContent ways_rows d) → EveryContent ways_rows d
+chosen_suits true c d o p e h = subst (EveryContent ways_rows) (some_is c d e) p
 chosen_suits false c d o p e h = h e
 
-content_suits : (vs : Variants) (name : Utf8) (c : Content) → VariantsSuitBothWays vs → content_of vs name ≡ Some c → ContentSuitsBothWays c
+content_suits : (vs : Variants) (name : Utf8) (c : Content) → EveryVariant ways_rows vs → content_of vs name ≡ Some c → EveryContent ways_rows c
 content_suits no_variants name c p e = absurd (no_some e)
 content_suits (variant n d vs) name c p e = chosen_suits (bytes_eq n name) d c (content_of vs name) p.1 e (content_suits vs name c p.2)
 
@@ -362,7 +356,7 @@ mutual
   given_items_good at value.no_items s p b g = no_items_good
   given_items_good at (value.item v vs) s p b g = item_good v vs (given_good at v s p b g.0) (given_items_good at vs s p b g.1)
 
-  given_parts_good : (at : Sight) (vs : Items) (ps : Parts) → AreParts ps → PartsSuitBothWays ps → PartsGiven at vs ps → GoodItems vs
+  given_parts_good : (at : Sight) (vs : Items) (ps : Parts) → AreParts ps → EveryPart ways_rows ps → PartsGiven at vs ps → GoodItems vs
   given_parts_good at value.no_items no_parts p b g = no_items_good
   given_parts_good at (value.item v vs) (part s ps) p b g = item_good v vs (given_good at v s p.0 b.0 g.0) (given_parts_good at vs ps p.1 b.1 g.1)
   given_parts_good at vs ps p b g = absurd g
@@ -373,7 +367,7 @@ mutual
       entry_good k v es (λ x o. key_is_text at key k x g.0 o) (λ x levels ps o q. entries_lack (IsGivenKey at key) k x (λ w y h t d. key_apart at key k w x y g.0 h o t d) es (given_keys at es key s g.2) a.0 levels ps q)
       (given_good at v s p b g.1) (given_entries_good at es key s p b a.1 g.2)
 
-  given_fields_good : (at : Sight) (vs : FieldValues) (fs : Fields) → repeats fs ≡ false → AreShapes fs → FieldsSuitBothWays fs → FieldsGiven at vs fs → GoodFields vs
+  given_fields_good : (at : Sight) (vs : FieldValues) (fs : Fields) → repeats fs ≡ false → AreShapes fs → EveryField ways_rows fs → FieldsGiven at vs fs → GoodFields vs
   given_fields_good at value.no_field_values no_fields d p b g = no_fields_good
   given_fields_good at (value.field_value m v vs) (field n s fs) d p b g =
       let c = neither (has_name n (field_names fs)) (repeats fs) d in

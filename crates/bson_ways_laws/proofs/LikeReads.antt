@@ -28,7 +28,8 @@ use Rattle.bson_laws.specs.ReadsLeaf.{borrows, put_entry, read_any, any_items, a
 use Rattle.bson_laws.specs.Containers.{reads_option, reads_items, reads_next, unit_of, reads_unit, read_first, read_enum, reads_key, reads_entries}
 use Rattle.bson_laws.specs.Slots.{Slot, Slots, fill_slot, unknown, put_at, fill, value_or, finish, reads_places, by_place, read_structure}
 use Rattle.bson_laws.specs.ReadsFrom.{read_leaf, reads_from, reads_parts, slots_of, reads_variant, reads_content}
-use Rattle.bson_ways_laws.specs.Ways.{IsCommon, IsBuilt, SuitsBothWays, FieldsSuitBothWays, PartsSuitBothWays, VariantsSuitBothWays, ContentSuitsBothWays}
+use Rattle.bson_laws.specs.Every.{EveryContent, EveryField, EveryPart, EveryVariant}
+use Rattle.bson_ways_laws.specs.Ways.{IsCommon, IsBuilt, SuitsBothWays, ways_rows}
 use Rattle.bson_ways_laws.proofs.BothWays.{Both, Equal, Any, KeyFree, IsFree, EntriesFree, FieldsFree, UnlessUuid, UnlessReserved, SameValue, SameItems, SameFields, both_ok, both_bind, both_map, both_inside, both_judged, both_then, both_same, both_cond}
 use Rattle.bson_ways_laws.proofs.Likes.{SameBytes, Like, NodesLike, ItemsLike, mended_like, owned_like}
 use Rattle.bson_ways_laws.proofs.Likes.{boolean_like, integer_like, double_like, array_like, document_like, borrow_like, own_like, texts_like, buffers_like}
@@ -166,9 +167,7 @@ leaf_like l byte_strings n m c h = λ a b e f. absurd cc
 leaf_like l byte_buffers n m c h = both_map Equal SameValue (buffer_of n) (buffer_of m) (λ b. value.bytes (made b)) (λ b. value.bytes (made b)) (buffers_like n m h) (λ a b q _. ap value.bytes q)
 leaf_like l units n m c h = both_map Any SameValue (null_of n) (null_of m) (λ _. value.unit) (λ _. value.unit) (λ a b e f. tt) (λ a b q _. refl)
 leaf_like l (extended_values k) n m c h = extended_like k n m h
-leaf_like l raw_documents n m c h = absurd c
-leaf_like l raw_arrays n m c h = absurd c
-leaf_like l raw_values n m c h = absurd c
+leaf_like l k n m c h = absurd c
 
 -- ---- keys
 
@@ -416,23 +415,23 @@ mutual
       (both_map SameFields SameValue (read_structure u (slots_of origins.Bytes fs) n) (read_structure u (slots_of origins.Tree fs) m) (value.structure (made name)) (value.structure (made name)) (structure_like u (slots_of origins.Bytes fs) (slots_of origins.Tree fs) n m (slots_like fs c.1) h)
       (λ a b q free. ap (value.structure name) (q (subst (λ o. UnlessReserved o (FieldsFree (field_contents a))) (not_reserved name c.0) free))))
 
-  slots_like : (fs : Fields) → FieldsSuitBothWays fs → SlotsLike (slots_of origins.Bytes fs) (slots_of origins.Tree fs)
+  slots_like : (fs : Fields) → EveryField ways_rows fs → SlotsLike (slots_of origins.Bytes fs) (slots_of origins.Tree fs)
   slots_like no_fields c = tt
   slots_like (field name s fs) c = (record { common = c.0; name = refl; missing = refl; each = λ n m h. reads_like s c.1 n m h; value = tt }, slots_like fs c.2)
 
-  reads_parts_like : (ps : Parts) → PartsSuitBothWays ps → (i : ℕ) (ns ms : Nodes) → ItemsLike ns ms → Both SameItems (reads_parts origins.Bytes ps i ns) (reads_parts origins.Tree ps i ms)
+  reads_parts_like : (ps : Parts) → EveryPart ways_rows ps → (i : ℕ) (ns ms : Nodes) → ItemsLike ns ms → Both SameItems (reads_parts origins.Bytes ps i ns) (reads_parts origins.Tree ps i ms)
   reads_parts_like no_parts c i ns ms h = both_ok SameItems value.no_items value.no_items (λ _. refl)
   reads_parts_like (part s ps) c i ns ms h =
       next_like SameItems i (reads_from origins.Bytes s) (reads_from origins.Tree s) (λ v rest. result_map (value.item v) (reads_parts origins.Bytes ps (suc i) rest)) (λ v rest. result_map (value.item v) (reads_parts origins.Tree ps (suc i) rest)) ns ms (reads_like s c.0) h
       (λ v w rs ss q o. both_map SameItems SameItems (reads_parts origins.Bytes ps (suc i) rs) (reads_parts origins.Tree ps (suc i) ss) (value.item v) (value.item w) (reads_parts_like ps c.1 (suc i) rs ss o) (λ a b t free j. value.item (q free.0 j) (t free.1 j)))
 
-  reads_variant_like : (vs : Variants) → VariantsSuitBothWays vs → ContentsLike (reads_variant origins.Bytes vs) (reads_variant origins.Tree vs)
+  reads_variant_like : (vs : Variants) → EveryVariant ways_rows vs → ContentsLike (reads_variant origins.Bytes vs) (reads_variant origins.Tree vs)
   reads_variant_like no_variants c key n m h = λ a b e f. absurd cc
   reads_variant_like (variant name d vs) c key n m h =
       both_cond SameValue (bytes_eq name key) (reads_content origins.Bytes name d n) (reads_variant origins.Bytes vs key n) (reads_content origins.Tree name d m) (reads_variant origins.Tree vs key m)
       (λ is. reads_content_like name d c.1 n m (h (subst IsCommon ((bytes_eq-Decides name key).0 is) c.0))) (λ is. reads_variant_like vs c.2 key n m h)
 
-  reads_content_like : (name : Utf8) (d : Content) → ContentSuitsBothWays d → EachLike (reads_content origins.Bytes name d) (reads_content origins.Tree name d)
+  reads_content_like : (name : Utf8) (d : Content) → EveryContent ways_rows d → EachLike (reads_content origins.Bytes name d) (reads_content origins.Tree name d)
   reads_content_like name unit_content c n m h = λ a b e f. absurd cc
   reads_content_like name (newtype_content s) c n m h =
       both_inside SameValue (at_key name) (at_key name) (result_map (value.newtype_variant (made name)) (reads_from origins.Bytes s n)) (result_map (value.newtype_variant (made name)) (reads_from origins.Tree s m))

@@ -34,7 +34,8 @@ use Rattle.bson_laws.proofs.TameBytes.{seen_tame}
 use Rattle.bson_tree_laws.specs.TreeSpell.{tree_spell, tree_whole}
 use Rattle.bson_kinds.proofs.Outcomes.{ok_is}
 use Rattle.bson_ways_laws.specs.Simple.{IsSimpleLeaf, IsSimple, AreSimple, AreDefinitionsSimple}
-use Rattle.bson_ways_laws.specs.Ways.{IsBuilt, SuitsBothWays, FieldsSuitBothWays, DefinitionsSuitBothWays, HasFreeInput}
+use Rattle.bson_laws.specs.Every.{EveryDefinition, EveryField}
+use Rattle.bson_ways_laws.specs.Ways.{IsBuilt, SuitsBothWays, HasFreeInput, ways_rows}
 use Rattle.bson_ways_laws.proofs.QuietBytes.{bytes_quiet}
 use Rattle.bson_ways_laws.proofs.SimpleWrites.{back, forth}
 use Rattle.bson_ways_laws.proofs.Twins.{Twin, SameContents, IsQuiet, reads_twin}
@@ -59,11 +60,11 @@ mutual
   simple_suits (definitions h s) c = (definitions_suit h c.0, simple_suits s c.1)
   simple_suits s c = absurd c
 
-  fields_suit : (fs : Fields) → AreSimple fs → FieldsSuitBothWays fs
+  fields_suit : (fs : Fields) → AreSimple fs → EveryField ways_rows fs
   fields_suit no_fields c = tt
   fields_suit (field name s fs) c = (c.0, simple_suits s c.1, fields_suit fs c.2)
 
-  definitions_suit : (h : Fields) → AreDefinitionsSimple h → DefinitionsSuitBothWays h
+  definitions_suit : (h : Fields) → AreDefinitionsSimple h → EveryDefinition ways_rows h
   definitions_suit no_fields c = tt
   definitions_suit (field name s h) c = (simple_suits s c.0, definitions_suit h c.1)
 

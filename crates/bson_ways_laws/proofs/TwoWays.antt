@@ -18,7 +18,7 @@ use Rattle.bson_values.specs.Value.{Value, kind_of}
 use Rattle.bson_laws.specs.declared.origin.Origin.TheVariants as origins
 use Rattle.bson_laws.specs.Reads.{answered, reads, document_at, reads_document}
 use Rattle.bson_laws.specs.ReadsFrom.{reads_from, tree_at, reads_tree_value}
-use Rattle.bson_laws.specs.Settled.{settled, IsSettled, AreFieldsSettled, ArePartsSettled, AreVariantsSettled, IsContentSettled}
+use Rattle.bson_laws.specs.Settled.{settled, IsSettled, settled_rows}
 use Rattle.bson_laws.specs.Spell.{Writing, at_top, spell, spell_document}
 use Rattle.bson_laws.specs.Unrolled.{whole}
 use Rattle.bson_laws.proofs.Documents.{answered_is, read_in, node_read}
@@ -29,7 +29,8 @@ use Rattle.bson_laws.proofs.ShapeForms as forms
 use Rattle.bson_laws.proofs.ShapeUnrolled.{shape_whole}
 use Rattle.bson_tree_laws.specs.TreeSpell.{tree_spell, tree_whole}
 use Rattle.bson_tree_laws.proofs.Writers.{writers}
-use Rattle.bson_ways_laws.specs.Ways.{SuitsBothWays, FieldsSuitBothWays, DefinitionsSuitBothWays, PartsSuitBothWays, VariantsSuitBothWays, ContentSuitsBothWays, HasFreeInput, HasCommonKeys}
+use Rattle.bson_laws.specs.Every.{EveryContent, EveryDefinition, EveryField, EveryPart, EveryVariant}
+use Rattle.bson_ways_laws.specs.Ways.{SuitsBothWays, HasFreeInput, HasCommonKeys, ways_rows}
 use Rattle.bson_ways_laws.proofs.DocumentLike.{bytes_like}
 use Rattle.bson_ways_laws.proofs.Freed.{spelled_free}
 use Rattle.bson_ways_laws.proofs.GivenAlike.{given_good}
@@ -42,7 +43,6 @@ use Rattle.bson_kinds.proofs.Apart.{no_ok}
 
 mutual
   ways_settled : (s : Form) → SuitsBothWays s → IsSettled s
-  ways_settled (leaf l) c = tt
   ways_settled (optional s) c = ways_settled s c
   ways_settled (lossy s) c = ways_settled s c
   ways_settled (human_readable s) c = c
@@ -52,29 +52,28 @@ mutual
   ways_settled (tuple ps) c = parts_settled ps c
   ways_settled (tuple_structure name ps) c = parts_settled ps c
   ways_settled (newtype name s) c = ways_settled s c.1
-  ways_settled (unit_structure name) c = tt
   ways_settled (structure u name fs) c = fields_settled fs c.1
   ways_settled (enumeration vs) c = variants_settled vs c
-  ways_settled (reference name) c = tt
   ways_settled (definitions h s) c = (definitions_settled h c.0, ways_settled s c.1)
+  ways_settled s c = tt
 
-  fields_settled : (fs : Fields) → FieldsSuitBothWays fs → AreFieldsSettled fs
+  fields_settled : (fs : Fields) → EveryField ways_rows fs → EveryField settled_rows fs
   fields_settled no_fields c = tt
   fields_settled (field name s fs) c = (ways_settled s c.1, fields_settled fs c.2)
 
-  definitions_settled : (h : Fields) → DefinitionsSuitBothWays h → AreFieldsSettled h
+  definitions_settled : (h : Fields) → EveryDefinition ways_rows h → EveryField settled_rows h
   definitions_settled no_fields c = tt
   definitions_settled (field name s h) c = (ways_settled s c.0, definitions_settled h c.1)
 
-  parts_settled : (ps : Parts) → PartsSuitBothWays ps → ArePartsSettled ps
+  parts_settled : (ps : Parts) → EveryPart ways_rows ps → EveryPart settled_rows ps
   parts_settled no_parts c = tt
   parts_settled (part s ps) c = (ways_settled s c.0, parts_settled ps c.1)
 
-  variants_settled : (vs : Variants) → VariantsSuitBothWays vs → AreVariantsSettled vs
+  variants_settled : (vs : Variants) → EveryVariant ways_rows vs → EveryVariant settled_rows vs
   variants_settled no_variants c = tt
   variants_settled (variant name d vs) c = (content_settled d c.1, variants_settled vs c.2)
 
-  content_settled : (d : Content) → ContentSuitsBothWays d → IsContentSettled d
+  content_settled : (d : Content) → EveryContent ways_rows d → EveryContent settled_rows d
   content_settled unit_content c = tt
   content_settled (newtype_content s) c = ways_settled s c
   content_settled (tuple_content ps) c = parts_settled ps c

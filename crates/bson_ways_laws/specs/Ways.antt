@@ -6,7 +6,8 @@ use Rattle.bson_base.specs.Tree as tree
 use Rattle.bson_base.specs.Tree.{Tree, document, array, javascript_code_with_scope, Pairs, no_pairs, pair, Trees, no_trees}
 use Rattle.bson_kinds.specs.declared.element_type.ElementType.TheVariants.{EmbeddedDocument}
 use Rattle.bson_rawdoc.specs.Node.{node_in}
-use Rattle.bson_shape.specs.Form.{Form, leaf, optional, lossy, human_readable, by_mode, sequence, newtype, unit_structure, map, tuple, tuple_structure, structure, enumeration, reference, definitions, Fields, no_fields, field, Parts, no_parts, part, Content, unit_content, newtype_content, tuple_content, struct_content, Variants, no_variants, variant}
+use Rattle.bson_shape.specs.Form.{Form, human_readable, by_mode, newtype, structure}
+use Rattle.bson_laws.specs.Every.{Rows, asking_nothing, Every}
 use Rattle.bson_laws.specs.Leaves.{LeafKind, raw_documents, raw_arrays, raw_values, leaf_kind}
 use Rattle.bson_laws.specs.Unmarked.{unmarked}
 use Rattle.bson_tree_laws.specs.Alike.{HasFreeKeys}
@@ -24,47 +25,28 @@ IsBuilt raw_arrays = ⊥
 IsBuilt raw_values = ⊥
 IsBuilt k = Unit {0}
 
-abbrev mutual
-  -- Nothing is kept in its bytes, nothing depends on whether the reader is human, and no name of a newtype, a struct, a field or a variant begins with `$`.
-  -- The names of definitions, which are never written, may be any.
-  pub SuitsBothWays : Form → Type 0
-  SuitsBothWays (leaf l) = IsBuilt (leaf_kind l)
-  SuitsBothWays (optional s) = SuitsBothWays s
-  SuitsBothWays (lossy s) = SuitsBothWays s
-  SuitsBothWays (human_readable s) = ⊥
-  SuitsBothWays (by_mode readable compact) = ⊥
-  SuitsBothWays (sequence s) = SuitsBothWays s
-  SuitsBothWays (map key s) = SuitsBothWays key × SuitsBothWays s
-  SuitsBothWays (tuple ps) = PartsSuitBothWays ps
-  SuitsBothWays (tuple_structure name ps) = PartsSuitBothWays ps
-  SuitsBothWays (newtype name s) = IsCommon name × SuitsBothWays s
-  SuitsBothWays (unit_structure name) = Unit {0}
-  SuitsBothWays (structure u name fs) = IsCommon name × FieldsSuitBothWays fs
-  SuitsBothWays (enumeration vs) = VariantsSuitBothWays vs
-  SuitsBothWays (reference name) = Unit {0}
-  SuitsBothWays (definitions h s) = DefinitionsSuitBothWays h × SuitsBothWays s
+-- the form does not depend on whether the reader is human, and its name does not begin with `$`
+abbrev pub SuitsWaysForm : Form → (inside : Type 0) → Type 0
+SuitsWaysForm (human_readable s) inside = ⊥
+SuitsWaysForm (by_mode readable compact) inside = ⊥
+SuitsWaysForm (newtype name s) inside = IsCommon name × inside
+SuitsWaysForm (structure u name fs) inside = IsCommon name × inside
+SuitsWaysForm s inside = inside
 
-  pub FieldsSuitBothWays : Fields → Type 0
-  FieldsSuitBothWays no_fields = Unit {0}
-  FieldsSuitBothWays (field name s fs) = IsCommon name × SuitsBothWays s × FieldsSuitBothWays fs
+-- nor does that of a field or a variant; a leaf keeps nothing in its bytes
+abbrev pub ways_rows : Rows
+ways_rows = record asking_nothing {
+  of_leaf = λ l. IsBuilt (leaf_kind l);
+  of_form = SuitsWaysForm;
+  of_definitions = λ in_fields in_forms in_body. in_forms × in_body;
+  of_field = λ name in_form in_rest. IsCommon name × in_form × in_rest;
+  of_variant = λ name in_content in_rest. IsCommon name × in_content × in_rest;
+}
 
-  pub DefinitionsSuitBothWays : Fields → Type 0
-  DefinitionsSuitBothWays no_fields = Unit {0}
-  DefinitionsSuitBothWays (field name s h) = SuitsBothWays s × DefinitionsSuitBothWays h
-
-  pub PartsSuitBothWays : Parts → Type 0
-  PartsSuitBothWays no_parts = Unit {0}
-  PartsSuitBothWays (part s ps) = SuitsBothWays s × PartsSuitBothWays ps
-
-  pub VariantsSuitBothWays : Variants → Type 0
-  VariantsSuitBothWays no_variants = Unit {0}
-  VariantsSuitBothWays (variant name c vs) = IsCommon name × ContentSuitsBothWays c × VariantsSuitBothWays vs
-
-  pub ContentSuitsBothWays : Content → Type 0
-  ContentSuitsBothWays unit_content = Unit {0}
-  ContentSuitsBothWays (newtype_content s) = SuitsBothWays s
-  ContentSuitsBothWays (tuple_content ps) = PartsSuitBothWays ps
-  ContentSuitsBothWays (struct_content fs) = FieldsSuitBothWays fs
+-- Nothing is kept in its bytes, nothing depends on whether the reader is human, and no name of a newtype, a struct, a field or a variant begins with `$`.
+-- The names of definitions, which are never written, may be any.
+abbrev pub SuitsBothWays : Form → Type 0
+SuitsBothWays = Every ways_rows
 
 -- ---- the document that is read
 
