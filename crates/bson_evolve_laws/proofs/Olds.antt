@@ -71,9 +71,7 @@ content_unrolled m g (variant word c vs) name = by_case (bytes_eq word name) (co
 unit_from : (m : ℕ) (g : Meanings) (o : Option Content) → option_map (λ c. unrolled_content m c g) o ≡ Some unit_content → o ≡ Some unit_content
 unit_from m g None e = absurd (no_some e)
 unit_from m g (Some unit_content) e = refl
-unit_from m g (Some (newtype_content s)) e = absurd cc
-unit_from m g (Some (tuple_content ps)) e = absurd cc
-unit_from m g (Some (struct_content fs)) e = absurd cc
+unit_from m g o e = absurd cc
 
 newtype_is : (s r : Form) → Some (newtype_content s) ≡ Some (newtype_content r) → s ≡ r
 newtype_is s r e = cc

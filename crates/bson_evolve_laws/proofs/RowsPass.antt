@@ -278,12 +278,10 @@ module _ (R : Form → Form → Type 0) (H K : Form → Tree → Type 0) (bson_H
   -- ---- enums
 
   content_any : (n : Utf8) (c : Content) (u : Tree) → Meets R (each_in_content n c (leaf Any)) → IsClean u → Passing u → Deep Passing u → ContentAt whole H c u → IsSome (views_any u)
-  content_any n unit_content u m k p d h = absurd h
   content_any n (newtype_content x) u m k p d h = out_K (leaf Any) u tt (p x (leaf Any) m.0 h)
   content_any n (tuple_content ps) (array ts) m k p d h = any_array ts (each_part_pass (at_key n ∷ []) 0 ps (leaf Any) ts m d h)
-  content_any n (tuple_content ps) u m k p d h = absurd h
   content_any n (struct_content fs) (document ps) m k p d h = any_document ps (each_field_pass (at_key n ∷ []) fs (leaf Any) ps ps m h.0 (whole_keys dropped ps fs h.1) (found_all ps k) d)
-  content_any n (struct_content fs) u m k p d h = absurd h
+  content_any n c u m k p d h = absurd h
 
   contents_any : (vs : Variants) (key : Utf8) (u : Tree) → Meets R (each_content vs (leaf Any)) → IsClean u → Passing u → Deep Passing u → VariantAt whole H vs key u → IsSome (views_any u)
   contents_any no_variants key u m k p d h = absurd h

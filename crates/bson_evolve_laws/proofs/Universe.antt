@@ -37,20 +37,7 @@ in_right p (x ∷ xs) ys i = inr (in_right p xs ys i)
 -- a form is among its places
 head_in : (h : Fields) (s : Form) → IsAmong (placed h s) (places h s)
 head_in h (leaf l) = inl refl
-head_in h (optional s) = inl refl
-head_in h (lossy s) = inl refl
-head_in h (human_readable s) = inl refl
-head_in h (by_mode r c) = inl refl
-head_in h (sequence s) = inl refl
-head_in h (map k s) = inl refl
-head_in h (tuple ps) = inl refl
-head_in h (tuple_structure n ps) = inl refl
-head_in h (newtype n s) = inl refl
-head_in h (unit_structure n) = inl refl
-head_in h (structure u n fs) = inl refl
-head_in h (enumeration vs) = inl refl
-head_in h (reference n) = inl refl
-head_in h (definitions k s) = inl refl
+head_in h s = inl refl
 
 -- ---- parts of plain shapes
 
@@ -136,7 +123,6 @@ module _ (U : List Placed) where
 
   mutual
     places_held : (h : Fields) (s : Form) → IsPart h s → IsTableHere h → Inside (places h s) → AllHeld (places h s)
-    places_held h (leaf l) p t f = (record { is = p; table = t; inner = tt; body = tt }, tt)
     places_held h (optional s) p t f =
         (record { is = p; table = t; inner = f (placed h s) (inr (head_in h s)); body = tt }, places_held h s (record { around = p.around; shape = p.shape.1; plain = p.plain }) t (λ q i. f q (inr i)))
     places_held h (lossy s) p t f = (record { is = p; table = t; inner = f (placed h s) (inr (head_in h s)); body = tt }, places_held h s (in_lossy h s p) t (λ q i. f q (inr i)))
@@ -151,12 +137,10 @@ module _ (U : List Placed) where
     places_held h (tuple_structure n ps) p t f =
         (record { is = p; table = t; inner = parts_here h ps (λ q i. f q (inr i)); body = tt }, parts_held h ps (tuple_parts h ps p.around p.shape.2 p.plain) t (λ q i. f q (inr i)))
     places_held h (newtype n s) p t f = (record { is = p; table = t; inner = f (placed h s) (inr (head_in h s)); body = tt }, places_held h s (in_newtype h n s p) t (λ q i. f q (inr i)))
-    places_held h (unit_structure n) p t f = (record { is = p; table = t; inner = tt; body = tt }, tt)
     places_held h (structure u n fs) p t f =
         (record { is = p; table = t; inner = fields_here h fs (λ q i. f q (inr i)); body = tt }, fields_held h fs (struct_parts h fs p.around p.shape.1 p.plain.1) t (λ q i. f q (inr i)))
     places_held h (enumeration vs) p t f =
         (record { is = p; table = t; inner = variants_here h vs (λ q i. f q (inr i)); body = tt }, variants_held h vs (enum_parts h vs p.around p.shape.1 p.plain) t (λ q i. f q (inr i)))
-    places_held h (reference n) p t f = (record { is = p; table = t; inner = tt; body = tt }, tt)
     places_held h (definitions k s) p t f =
         let q = inside h k s p in
         let rest : Inside (field_places k k ++ places k s) = λ r i. f r (inr (inr i)) in
@@ -169,6 +153,7 @@ module _ (U : List Placed) where
             held_both (field_places k k) (places k s) (fields_held k k (definition_parts k k q.around q.around.table.shapes q.around.plain) own first) (places_held k s q own last),
           ),
         )
+    places_held h s p t f = (record { is = p; table = t; inner = tt; body = tt }, tt)
 
     fields_held : (h fs : Fields) → FieldsAll (IsPart h) fs → IsTableHere h → Inside (field_places h fs) → AllHeld (field_places h fs)
     fields_held h no_fields p t f = tt

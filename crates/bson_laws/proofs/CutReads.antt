@@ -32,18 +32,7 @@ use Rattle.bson_laws.proofs.SameSlots.{AllAlike, keyed_same, structure_flat, str
 -- what a value is opened to
 heights_opened : (x : Extended) → heights (opened x) ≤ opened_height x
 heights_opened (binary subtype b) = omega arith
-heights_opened undefined = omega arith
-heights_opened (object_id id) = omega arith
-heights_opened (date_time n) = omega arith
-heights_opened (regular_expression pattern options) = omega arith
-heights_opened (db_pointer namespace id) = omega arith
-heights_opened (javascript_code t) = omega arith
-heights_opened (symbol t) = omega arith
-heights_opened (javascript_code_with_scope code scope) = omega arith
-heights_opened (timestamp time increment) = omega arith
-heights_opened (decimal128 b) = omega arith
-heights_opened max_key = omega arith
-heights_opened min_key = omega arith
+heights_opened x = omega arith
 
 mutual
   pub height_mended : (n : Node) → height (mended n) ≤ height n
@@ -245,14 +234,11 @@ module _ (o : Origin) (read_leaf : (is_borrowing : Bool) → LeafKind → Node �
 
   mutual
     pub reads_cut : (s : Form) (d : ℕ) (n : Node) → height n ≤ d → reads s n ≡ reads (cut s d) n
-    reads_cut (leaf l) d n w = refl
     reads_cut (optional s) d n w = ap (reads_option n) (reads_cut s d n w)
     reads_cut (lossy s) d n w = reads_cut s d (mended_at o n) (mended_within o n d w)
     reads_cut (human_readable s) d n w = ap (result_map (value.newtype (made readable_newtype))) (reads_cut s d n w)
     reads_cut (by_mode r c) d n w = reads_cut c d n w
     reads_cut (newtype name s) d n w = ap (result_map (value.newtype (made name))) (reads_cut s d n w)
-    reads_cut (unit_structure name) d n w = refl
-    reads_cut (reference name) d n w = refl
     reads_cut (definitions h s) d n w = reads_cut s d n w
     reads_cut (sequence s) zero n w = array_then (λ ns. result_map value.sequence (reads_items (reads s) 0 ns)) (λ ns. result_map value.sequence (reads_items (reads nothing) 0 ns)) n (array_flat _ _ n w)
     reads_cut (sequence s) (suc d) n w =
@@ -283,6 +269,7 @@ module _ (o : Origin) (read_leaf : (is_borrowing : Bool) → LeafKind → Node �
     reads_cut (enumeration vs) (suc d) n w =
         judged_alike n (enum_at o (unit_at o vs) (reads_variant vs)) (enum_at o (unit_at o (cut_variants vs (suc d))) (reads_variant (cut_variants vs (suc d))))
         (enum_alike o (reads_variant vs) (reads_variant (cut_variants vs (suc d))) vs n d (λ key m q. variant_cut vs key d m q) w)
+    reads_cut s d n w = refl
 
     parts_cut : (ps : Parts) (i d : ℕ) (ns : Nodes) → heights ns ≤ d → reads_parts ps i ns ≡ reads_parts (cut_parts ps d) i ns
     parts_cut no_parts i d ns w = refl

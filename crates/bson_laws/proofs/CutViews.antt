@@ -91,38 +91,28 @@ at_alike f g d h s (Some t) w = h t w
 
 mutual
   pub views_cut : (s : Form) (d : ℕ) (t : Tree) → depth t ≤ d → views s t ≡ views (cut s d) t
-  views_cut (leaf l) d t w = refl
   views_cut (optional s) d null w = refl
   views_cut (optional s) d t w = ap (option_map value.some) (views_cut s d t w)
   views_cut (lossy s) d t w = views_cut s d t w
-  views_cut (human_readable s) d t w = refl
-  views_cut (by_mode r c) d t w = refl
   views_cut (newtype name s) d t w = ap (option_map (value.newtype name)) (views_cut s d t w)
-  views_cut (unit_structure name) d t w = refl
-  views_cut (reference name) d t w = refl
   views_cut (definitions h s) d t w = views_cut s d t w
   views_cut (sequence s) zero (array ts) w = absurd (omega arith)
   views_cut (sequence s) (suc d) (array ts) w = ap (option_map value.sequence) (items_alike (views s) (views (cut s d)) d (λ u q. views_cut s d u q) ts (omega arith))
-  views_cut (sequence s) d t w = refl
   views_cut (map key s) zero (document ps) w = absurd (omega arith)
   views_cut (map key s) (suc d) (document ps) w =
       ap (option_map value.map) (entries_alike (views_key key) (views_key (cut key 0)) (views s) (views (cut s d)) d (key_kept key) (λ u q. views_cut s d u q) ps (omega arith))
-  views_cut (map key s) d t w = refl
   views_cut (tuple qs) zero (array ts) w = absurd (omega arith)
   views_cut (tuple qs) (suc d) (array ts) w = ap (option_map value.tuple) (parts_cut qs d ts (omega arith))
-  views_cut (tuple qs) d t w = refl
   views_cut (tuple_structure name qs) zero (array ts) w = absurd (omega arith)
   views_cut (tuple_structure name qs) (suc d) (array ts) w = ap (option_map (value.tuple_structure name)) (parts_cut qs d ts (omega arith))
-  views_cut (tuple_structure name qs) d t w = refl
   views_cut (structure u name fs) zero (document ps) w = absurd (omega arith)
   views_cut (structure u name fs) (suc d) (document ps) w =
       let rest : pairs_depth ps ≤ d = omega arith in
       λ i. cond (known_kept u fs d ps i) (option_map (value.structure name) (fields_cut fs d ps rest i)) None
-  views_cut (structure u name fs) d t w = refl
   views_cut (enumeration vs) d (string name) w = units_kept name name vs d
   views_cut (enumeration vs) zero (document ps) w = absurd (omega arith)
   views_cut (enumeration vs) (suc d) (document (pair name t no_pairs)) w = variant_cut vs name d t (omega arith)
-  views_cut (enumeration vs) d t w = refl
+  views_cut s d t w = refl
 
   fields_cut : (fs : Fields) (d : ℕ) (ps : Pairs) → pairs_depth ps ≤ d → views_fields fs ps ≡ views_fields (cut_fields fs d) ps
   fields_cut no_fields d ps w = refl
@@ -142,9 +132,7 @@ mutual
   variant_cut (variant name c vs) key d t w = λ i. cond (bytes_eq name key) (content_cut name c d t w i) (variant_cut vs key d t w i)
 
   content_cut : (name : Utf8) (c : Content) (d : ℕ) (t : Tree) → depth t ≤ d → views_content name c t ≡ views_content name (cut_content c (suc d)) t
-  content_cut name unit_content d t w = refl
   content_cut name (newtype_content s) d t w = ap (option_map (value.newtype_variant name)) (views_cut s d t w)
   content_cut name (tuple_content qs) d (array ts) w = ap (option_map (value.tuple_variant name)) (parts_cut qs d ts (omega arith))
-  content_cut name (tuple_content qs) d t w = refl
   content_cut name (struct_content fs) d (document ps) w = ap (option_map (value.structure_variant name)) (fields_cut fs d ps (omega arith))
-  content_cut name (struct_content fs) d t w = refl
+  content_cut name c d t w = refl

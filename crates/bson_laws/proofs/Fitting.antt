@@ -8,54 +8,12 @@ use Rattle.bson_laws.specs.Fits.{FitsLeaf, Fits}
 -- what fits a leaf is a value of what the leaf takes
 pub fits_leaf : (v : Value) (l : Leaf) → Fits v (leaf l) → FitsLeaf (leaf_kind l) v
 fits_leaf (boolean b) l f = f
-fits_leaf (integer type n) l f = f
-fits_leaf (double bits) l f = f
-fits_leaf (character c) l f = f
-fits_leaf (str t) l f = f
-fits_leaf (bytes bs) l f = f
-fits_leaf none l f = f
-fits_leaf (some v) l f = f
-fits_leaf unit l f = f
-fits_leaf (unit_structure name) l f = f
-fits_leaf (newtype name v) l f = f
-fits_leaf (sequence vs) l f = f
-fits_leaf (map es) l f = f
-fits_leaf (structure name fs) l f = f
-fits_leaf (unit_variant name) l f = f
-fits_leaf (newtype_variant name v) l f = f
-fits_leaf (tuple vs) l f = f
-fits_leaf (tuple_structure name vs) l f = f
-fits_leaf (tuple_variant name vs) l f = f
-fits_leaf (structure_variant name fs) l f = f
-fits_leaf (raw_document bs) l f = f
-fits_leaf (raw_array bs) l f = f
-fits_leaf (mode v w) l f = f
+fits_leaf v l f = f
 
 -- and a value of what a leaf takes fits it
 pub leaf_fits : (v : Value) (l : Leaf) → FitsLeaf (leaf_kind l) v → Fits v (leaf l)
 leaf_fits (boolean b) l f = f
-leaf_fits (integer type n) l f = f
-leaf_fits (double bits) l f = f
-leaf_fits (character c) l f = f
-leaf_fits (str t) l f = f
-leaf_fits (bytes bs) l f = f
-leaf_fits none l f = f
-leaf_fits (some v) l f = f
-leaf_fits unit l f = f
-leaf_fits (unit_structure name) l f = f
-leaf_fits (newtype name v) l f = f
-leaf_fits (sequence vs) l f = f
-leaf_fits (map es) l f = f
-leaf_fits (structure name fs) l f = f
-leaf_fits (unit_variant name) l f = f
-leaf_fits (newtype_variant name v) l f = f
-leaf_fits (tuple vs) l f = f
-leaf_fits (tuple_structure name vs) l f = f
-leaf_fits (tuple_variant name vs) l f = f
-leaf_fits (structure_variant name fs) l f = f
-leaf_fits (raw_document bs) l f = f
-leaf_fits (raw_array bs) l f = f
-leaf_fits (mode v w) l f = f
+leaf_fits v l f = f
 
 -- what fits a form whose texts are mended fits the form, and what fits the form fits it so
 pub fits_lossy : (v : Value) (s : Form) → Fits v (lossy s) → Fits v s

@@ -209,53 +209,11 @@ module _ (sight : Sight) where
   -- what is given at a leaf, of whatever form the value is; what the leaf borrows is there to be borrowed
   pub leaf_given_at : (l : Leaf) (v : Value) → IsGivenLeaf (leaf_kind l) v × LeafBorrowed sight (borrows l) (leaf_kind l) → IsGiven sight v (leaf l)
   leaf_given_at l (value.boolean b) g = g
-  leaf_given_at l (value.integer t n) g = g
-  leaf_given_at l (value.double b) g = g
-  leaf_given_at l (value.character c) g = g
-  leaf_given_at l (value.str t) g = g
-  leaf_given_at l (value.bytes b) g = g
-  leaf_given_at l value.none g = g
-  leaf_given_at l (value.some v) g = g
-  leaf_given_at l value.unit g = g
-  leaf_given_at l (value.unit_structure n) g = g
-  leaf_given_at l (value.unit_variant n) g = g
-  leaf_given_at l (value.newtype n v) g = g
-  leaf_given_at l (value.newtype_variant n v) g = g
-  leaf_given_at l (value.sequence vs) g = g
-  leaf_given_at l (value.tuple vs) g = g
-  leaf_given_at l (value.tuple_structure n vs) g = g
-  leaf_given_at l (value.tuple_variant n vs) g = g
-  leaf_given_at l (value.map es) g = g
-  leaf_given_at l (value.structure n fs) g = g
-  leaf_given_at l (value.structure_variant n fs) g = g
-  leaf_given_at l (value.raw_document b) g = g
-  leaf_given_at l (value.raw_array b) g = g
-  leaf_given_at l (value.mode v w) g = g
+  leaf_given_at l v g = g
 
   pub given_leaf : (v : Value) (l : Leaf) → IsGiven sight v (leaf l) → IsGivenLeaf (leaf_kind l) v × LeafBorrowed sight (borrows l) (leaf_kind l)
   given_leaf (value.boolean b) l g = g
-  given_leaf (value.integer t n) l g = g
-  given_leaf (value.double b) l g = g
-  given_leaf (value.character c) l g = g
-  given_leaf (value.str t) l g = g
-  given_leaf (value.bytes b) l g = g
-  given_leaf value.none l g = g
-  given_leaf (value.some v) l g = g
-  given_leaf value.unit l g = g
-  given_leaf (value.unit_structure n) l g = g
-  given_leaf (value.unit_variant n) l g = g
-  given_leaf (value.newtype n v) l g = g
-  given_leaf (value.newtype_variant n v) l g = g
-  given_leaf (value.sequence vs) l g = g
-  given_leaf (value.tuple vs) l g = g
-  given_leaf (value.tuple_structure n vs) l g = g
-  given_leaf (value.tuple_variant n vs) l g = g
-  given_leaf (value.map es) l g = g
-  given_leaf (value.structure n fs) l g = g
-  given_leaf (value.structure_variant n fs) l g = g
-  given_leaf (value.raw_document b) l g = g
-  given_leaf (value.raw_array b) l g = g
-  given_leaf (value.mode v w) l g = g
+  given_leaf v l g = g
 
   -- what is given where texts are mended, at the form that applies of two, and at definitions, of whatever form the value is
   lossy_given : (v : Value) (s : Form) → IsGiven (marked sight) v s → IsGiven sight v (lossy s)
@@ -385,18 +343,7 @@ module _ (sight : Sight) where
   leaf_borrowed : (extended : ExtendedLeaf → Node → Reading Marked) (l : Bool) (k : LeafKind) (n : Node) (v : Marked) → IsTame n → read_leaf_with extended l k n ≡ Ok v → LeafBorrowed sight l k
   leaf_borrowed extended l texts n v t e = let r = map_ok value.str (text_of l n) v e in texts_borrow l n r.0 t r.1
   leaf_borrowed extended l byte_strings n v t e = let r = map_ok value.bytes (bytes_of n) v e in bytes_borrow n r.0 t r.1
-  leaf_borrowed extended l anything n v t e = tt
-  leaf_borrowed extended l ignored n v t e = tt
-  leaf_borrowed extended l booleans n v t e = tt
-  leaf_borrowed extended l (numbers type) n v t e = tt
-  leaf_borrowed extended l doubles n v t e = tt
-  leaf_borrowed extended l characters n v t e = tt
-  leaf_borrowed extended l byte_buffers n v t e = tt
-  leaf_borrowed extended l units n v t e = tt
-  leaf_borrowed extended l (extended_values k) n v t e = tt
-  leaf_borrowed extended l raw_documents n v t e = tt
-  leaf_borrowed extended l raw_arrays n v t e = tt
-  leaf_borrowed extended l raw_values n v t e = tt
+  leaf_borrowed extended l k n v t e = tt
 
   -- ---- keys
 

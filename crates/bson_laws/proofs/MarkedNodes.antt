@@ -85,7 +85,6 @@ scope_marked : (code : Piece) (scope : Node) → IsInput code → IsMarked scope
 scope_marked code scope h each = opens_marked (javascript_code_with_scope code scope) (λ i. javascript_code_with_scope (input_is code h i) (each i))
 
 kind_marked : (container : ElementType → Bytes → Node) → AreMarked container → AreMarked (node_with container)
-kind_marked container each kinds.Double b = refl
 kind_marked container each kinds.String b = or_marked kinds.String node.string (text_bytes b) (λ x e. ap node.string (input_is x (text_input b x e)))
 kind_marked container each kinds.EmbeddedDocument b = each kinds.EmbeddedDocument b
 kind_marked container each kinds.Array b = each kinds.Array b
@@ -93,8 +92,6 @@ kind_marked container each kinds.Binary b = or_marked kinds.Binary (λ x. binary
 kind_marked container each kinds.Undefined b = opens_marked node.undefined refl
 kind_marked container each kinds.ObjectId b = opens_marked (node.object_id (borrowed b)) refl
 kind_marked container each kinds.Boolean b = or_marked kinds.Boolean node.boolean (boolean_of (get_or b 0 0)) (λ x e. refl)
-kind_marked container each kinds.DateTime b = refl
-kind_marked container each kinds.Null b = refl
 kind_marked container each kinds.RegularExpression b =
     or_marked kinds.RegularExpression (λ x. opens (regular_expression x.0 x.1)) (two_bytes (two_texts_in b))
     (λ x e. let h = two_input (two_texts_in b) x e in opens_marked (regular_expression x.0 x.1) (λ i. regular_expression (input_is x.0 h.0 i) (input_is x.1 h.1 i)))
@@ -106,12 +103,8 @@ kind_marked container each kinds.Symbol b = or_marked kinds.Symbol (λ x. opens 
 kind_marked container each kinds.JavaScriptCodeWithScope b =
     or_marked kinds.JavaScriptCodeWithScope (λ x. opens (javascript_code_with_scope x.0 (container kinds.EmbeddedDocument x.1))) (scoped_bytes (int32_in (drop 4 b)) (drop 4 b))
     (λ x e. scope_marked x.0 (container kinds.EmbeddedDocument x.1) (scope_input (int32_in (drop 4 b)) (drop 4 b) x e) (each kinds.EmbeddedDocument x.1))
-kind_marked container each kinds.Int32 b = refl
-kind_marked container each kinds.Timestamp b = refl
-kind_marked container each kinds.Int64 b = refl
 kind_marked container each kinds.Decimal128 b = opens_marked (node.decimal128 (borrowed b)) refl
-kind_marked container each kinds.MaxKey b = refl
-kind_marked container each kinds.MinKey b = refl
+kind_marked container each x b = refl
 
 -- ---- documents and arrays
 

@@ -97,28 +97,18 @@ borrowed_bytes false bs v borrows_input e = absurd cc
 
 leaf_read : (at : Sight) (l : Bool) (k : LeafKind) (t : Tree) (v : Value) (levels : ℕ) → LeafBorrowed at l k → IsClean t → depth t ≤ levels → views_leaf k t ≡ Some v → ReadAs contents (in_bytes.read_leaf l k (tree_node at t levels)) v
 leaf_read at l anything t v levels borrows_input c d e = any_again at levels t v c d e
-leaf_read at l ignored t v levels borrows_input c d e = absurd (no_some e)
 leaf_read at l booleans (boolean b) v levels borrows_input c d e = (value.boolean b, refl, some_is (value.boolean b) v e)
 leaf_read at l booleans t v levels borrows_input c d e = absurd cc
 leaf_read at l (numbers type) (int32 n) v levels borrows_input c d e = number_read type n (in_range type n) v e
 leaf_read at l (numbers type) (int64 n) v levels borrows_input c d e = number_read type n (in_range type n) v e
-leaf_read at l (numbers type) t v levels borrows_input c d e = absurd (no_some e)
 leaf_read at l doubles (double bits) v levels borrows_input c d e = (value.double bits, refl, some_is (value.double bits) v e)
-leaf_read at l doubles t v levels borrows_input c d e = absurd (no_some e)
 leaf_read at l characters (string t) v levels borrows_input c d e = let m = some_map value.character (one_character (chars t)) v e in (value.character m.0, ap read_character m.1, m.2)
-leaf_read at l characters t v levels borrows_input c d e = absurd (no_some e)
 leaf_read at l texts (string t) v levels borrows_input c d e = borrowed_text at l t v borrows_input (some_is (value.str t) v e)
-leaf_read at l texts t v levels borrows_input c d e = absurd (no_some e)
 leaf_read at l byte_strings (binary zero bs) v levels borrows_input c d e = borrowed_bytes at.bytes bs v borrows_input (some_is (value.bytes bs) v e)
-leaf_read at l byte_strings t v levels borrows_input c d e = absurd (no_some e)
 leaf_read at l byte_buffers (binary zero bs) v levels borrows_input c d e = (value.bytes (made bs), refl, some_is (value.bytes bs) v e)
-leaf_read at l byte_buffers t v levels borrows_input c d e = absurd (no_some e)
 leaf_read at l units null v levels borrows_input c d e = (value.unit, refl, some_is value.unit v e)
-leaf_read at l units t v levels borrows_input c d e = absurd (no_some e)
 leaf_read at l (extended_values k) t v levels borrows_input c d e = extended_again at k t v levels c d e
-leaf_read at l raw_documents t v levels borrows_input c d e = absurd (no_some e)
-leaf_read at l raw_arrays t v levels borrows_input c d e = absurd (no_some e)
-leaf_read at l raw_values t v levels borrows_input c d e = absurd (no_some e)
+leaf_read at l k t v levels borrows_input c d e = absurd (no_some e)
 
 -- the same of a tree in memory, of which nothing is borrowed
 tree_leaf_read : (at : Sight) (l : Bool) (k : LeafKind) (t : Tree) (v : Value) (levels : ℕ) → IsLeafOwned l k → IsClean t → depth t ≤ levels → views_leaf k t ≡ Some v → ReadAs contents (read_leaf origins.Tree l k (tree_node at t levels)) v
@@ -133,10 +123,7 @@ tree_leaf_read at l characters t v levels owned c d e = leaf_read at l character
 tree_leaf_read at l byte_buffers t v levels owned c d e = leaf_read at l byte_buffers t v levels tt c d e
 tree_leaf_read at l units t v levels owned c d e = leaf_read at l units t v levels tt c d e
 tree_leaf_read at l (extended_values k) t v levels owned c d e = leaf_read at l (extended_values k) t v levels tt c d e
-tree_leaf_read at l ignored t v levels owned c d e = absurd (no_some e)
-tree_leaf_read at l raw_documents t v levels owned c d e = absurd (no_some e)
-tree_leaf_read at l raw_arrays t v levels owned c d e = absurd (no_some e)
-tree_leaf_read at l raw_values t v levels owned c d e = absurd (no_some e)
+tree_leaf_read at l k t v levels owned c d e = absurd (no_some e)
 
 leaf_read_from : (o : Origin) (at : Sight) (l : Bool) (k : LeafKind) (t : Tree) (v : Value) (levels : ℕ) → LeafSuits o at l k → IsClean t → depth t ≤ levels → views_leaf k t ≡ Some v → ReadAs contents (read_leaf o l k (tree_node at t levels)) v
 leaf_read_from origins.Bytes at l k t v levels suits c d e = leaf_read at l k t v levels suits c d e
@@ -328,9 +315,6 @@ mutual
   reads_back o at (leaf w) t v levels p suits c d e = let h = leaf_read_from o at (borrows w) (leaf_kind w) t v levels suits c d e in (h.0, ap (λ r. r >>= read_leaf o (borrows w) (leaf_kind w)) (judged_again at t levels c d) ∙ h.1, h.2)
   reads_back o at (optional s) t v levels p suits c d e = option_again at s t v levels (reads_from o s (tree_node at t levels)) (clean_coded t c) (λ w h. reads_back o at s t w levels p suits c d h) e
   reads_back o at (lossy s) t v levels p suits c d e = lossy_again o at s t v levels (clean_coded t c) (reads_back o (marked_at o at) s t v levels p suits c d e)
-  reads_back o at (human_readable s) t v levels p suits c d e = absurd (no_some e)
-  reads_back o at (by_mode readable compact) t v levels p suits c d e = absurd (no_some e)
-  reads_back o at (reference name) t v levels p suits c d e = absurd (no_some e)
   reads_back o at (definitions h s) t v levels p suits c d e = reads_back o at s t v levels p suits c d e
   reads_back o at (newtype name s) t v levels p suits c d e =
       let m = some_map (value.newtype name) (views s t) v e in
@@ -340,19 +324,16 @@ mutual
   reads_back o at (sequence s) (array ts) v levels p suits c d e =
       parts_again at value.sequence value.sequence (views_items (views s)) (reads_items (reads_from o s) 0) ts v levels (λ x. refl)
       (λ vs c' d' h. items_again at (views s) (reads_from o s) (levels - 1) (λ u w. reads_back o at s u w (levels - 1) p suits) 0 ts vs c' d' h) c d e
-  reads_back o at (sequence s) t v levels p suits c d e = absurd (no_some e)
   reads_back o at (map key s) t v levels p suits c d e = map_again o at key s t v levels suits.0 (λ u w. reads_back o at s u w (levels - 1) p.2 suits.1) c d e
   reads_back o at (structure u name fs) (document qs) v levels p suits c d e =
       let k = where_known (all_known u fs qs) (option_map (value.structure name) (views_fields fs qs)) v e in
       fields_again o at u (read_structure u) (value.structure name) (value.structure (made name)) fs qs v levels (keyed at u) (λ x. refl) p.0.distinct (λ ps vs c' d' h. sees_fields_again o at fs ps vs (levels - 1) p.1 suits c' d' h) c d k.0 k.1
-  reads_back o at (structure u name fs) t v levels p suits c d e = absurd (no_some e)
   reads_back o at (tuple ps) (array ts) v levels p suits c d e =
       parts_again at value.tuple value.tuple (views_parts ps) (reads_parts o ps 0) ts v levels (λ x. refl) (λ vs c' d' h. reads_parts_again o at ps 0 ts vs (levels - 1) p suits c' d' h) c d e
-  reads_back o at (tuple ps) t v levels p suits c d e = absurd (no_some e)
   reads_back o at (tuple_structure name ps) (array ts) v levels p suits c d e =
       parts_again at (value.tuple_structure name) (value.tuple_structure (made name)) (views_parts ps) (reads_parts o ps 0) ts v levels (λ x. refl) (λ vs c' d' h. reads_parts_again o at ps 0 ts vs (levels - 1) p.1 suits c' d' h) c d e
-  reads_back o at (tuple_structure name ps) t v levels p suits c d e = absurd (no_some e)
   reads_back o at (enumeration vs) t v levels p suits c d e = enum_again o at vs t v levels (λ name u w. reads_variant_again o at vs name u w (levels - 1) p.1 suits) c d e
+  reads_back o at s t v levels p suits c d e = absurd (no_some e)
 
   sees_fields_again : (o : Origin) (at : Sight) (fs : Fields) (ps : Pairs) (vs : FieldValues) (levels : ℕ) → AreShapes fs → FieldsSuit o at fs → ArePairsClean ps → pairs_depth ps ≤ levels → views_fields fs ps ≡ Some vs → (out : MarkedFields) × (seen_fields o at levels fs ps ≡ Some out) × (field_contents out ≡ vs)
   sees_fields_again o at no_fields ps vs levels p suits c d e = (no_field_values, refl, some_is no_field_values vs e)
@@ -386,17 +367,15 @@ mutual
       (λ h. reads_content_again o at x n t v levels p.1 suits.0 c d h) (λ h. reads_variant_again o at vs name t v levels p.2 suits.1 c d h)
 
   reads_content_again : (o : Origin) (at : Sight) (x : Content) (n : Utf8) (t : Tree) (v : Value) (levels : ℕ) → IsContent x → ContentSuits o at x → IsClean t → depth t ≤ levels → views_content n x t ≡ Some v → ReadAs contents (reads_content o n x (tree_node at t levels)) v
-  reads_content_again o at unit_content n t v levels p suits c d e = absurd (no_some e)
   reads_content_again o at (newtype_content s) n t v levels p suits c d e =
       let m = some_map (value.newtype_variant n) (views s t) v e in
       let h = reads_back o at s t m.0 levels p suits c d m.1 in
       (value.newtype_variant (made n) h.0, ap (λ r. under n (result_map (value.newtype_variant (made n)) r)) h.1, ap (value.newtype_variant n) h.2 ∙ m.2)
   reads_content_again o at (tuple_content ps) n (array ts) v levels p suits c d e =
       under_read n _ v (tuple_content_again o at n ps ts v levels suits.0 (λ vs c' d' h. reads_parts_again o at ps 0 ts vs (levels - 1) p suits.1 c' d' h) c d e)
-  reads_content_again o at (tuple_content ps) n t v levels p suits c d e = absurd (no_some e)
   reads_content_again o at (struct_content fs) n (document qs) v levels p suits c d e =
       under_read n _ v (fields_again o at dropped (struct_content_at o) (value.structure_variant n) (value.structure_variant (made n)) fs qs v levels (content_keyed o at) (λ x. refl) p.0 (λ ps vs c' d' h. sees_fields_again o at fs ps vs (levels - 1) p.1 suits c' d' h) c d refl e)
-  reads_content_again o at (struct_content fs) n t v levels p suits c d e = absurd (no_some e)
+  reads_content_again o at x n t v levels p suits c d e = absurd (no_some e)
 
 -- what a clean tree is at a shape is read from it in bytes
 pub reads_again : (at : Sight) (s : Form) (t : Tree) (v : Value) (levels : ℕ) → IsShape s → IsBorrowed at s → IsClean t → depth t ≤ levels → views s t ≡ Some v → ReadAs contents (in_bytes.reads s (tree_node at t levels)) v

@@ -150,9 +150,7 @@ tree_unit_formed b g (variant n c vs) name = tree_unit_either b (bytes_eq n name
 -- the key of a map
 unit_laid : (g : Meanings) (name : Utf8) (c : Content) → unit_of name (Some (unrolled_content max_steps c g)) ≡ unit_of name (Some c)
 unit_laid g name unit_content = refl
-unit_laid g name (newtype_content s) = refl
-unit_laid g name (tuple_content ps) = refl
-unit_laid g name (struct_content fs) = refl
+unit_laid g name c = refl
 
 units_laid : (g : Meanings) (name key : Utf8) (vs : Variants) → unit_of name (content_of (unrolled_variants max_steps vs g) key) ≡ unit_of name (content_of vs key)
 units_laid g name key no_variants = refl

@@ -11,7 +11,6 @@ expected_cut false s t d = refl
 -- the key of a map stays as it is
 mutual
   pub settled_cut : (r : Bool) (s : Form) (d : ℕ) → cut (settled r s) d ≡ settled r (cut s d)
-  settled_cut r (leaf l) d = refl
   settled_cut r (optional s) d = ap optional (settled_cut r s d)
   settled_cut r (lossy s) d = ap lossy (settled_cut r s d)
   settled_cut r (human_readable s) d = ap human_readable (settled_cut true s d)
@@ -25,12 +24,11 @@ mutual
   settled_cut r (tuple_structure name ps) zero = refl
   settled_cut r (tuple_structure name ps) (suc d) = ap (tuple_structure name) (parts_cut r ps d)
   settled_cut r (newtype name s) d = ap (newtype name) (settled_cut r s d)
-  settled_cut r (unit_structure name) d = refl
   settled_cut r (structure u name fs) zero = refl
   settled_cut r (structure u name fs) (suc d) = ap (structure u name) (fields_cut r fs d)
   settled_cut r (enumeration vs) d = ap enumeration (variants_cut r vs d)
-  settled_cut r (reference name) d = refl
   settled_cut r (definitions h s) d = ap (definitions (settled_fields r h)) (settled_cut r s d)
+  settled_cut r s d = refl
 
   fields_cut : (r : Bool) (fs : Fields) (d : ℕ) → cut_fields (settled_fields r fs) d ≡ settled_fields r (cut_fields fs d)
   fields_cut r no_fields d = refl

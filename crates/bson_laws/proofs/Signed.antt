@@ -149,23 +149,15 @@ keyed k (Some key) = free_or key (has_zero key)
 
 mutual
   spelled : (r : Bool) (v : Value) → AreSigned v → (levels : ℕ) → HoldsNumbers (spell_as r v levels)
-  spelled r (value.boolean b) g levels = tt
-  spelled r (value.double bits) g levels = tt
-  spelled r (value.character c) g levels = tt
   spelled r (value.bytes bs) g levels = bytes_counted 0 bs
-  spelled r value.none g levels = tt
   spelled r (value.some v) g levels = spelled r v g levels
-  spelled r value.unit g levels = tt
-  spelled r (value.unit_structure name) g levels = tt
   spelled r (value.newtype name v) g levels =
       uuid_or (bytes_eq name uuid_newtype) (uuid_bytes r v) (spell_as (readable_inside r name) v levels) (spelled (readable_inside r name) v g levels)
   spelled true (value.mode v w) g levels = spelled true v g.0 levels
   spelled false (value.mode v w) g levels = spelled false w g.1 levels
   spelled r (value.integer type n) g levels = numbered (written_as type) n g
-  spelled r (value.str t) g levels = tt
   spelled r (value.sequence vs) g levels = enclosed array (spell_items_as r 0 vs) (items_spelled r 0 vs g) levels
   spelled r (value.map es) g levels = enclosed document (spell_entries_as r es) (entries_spelled r es g) levels
-  spelled r (value.unit_variant name) g levels = tt
   spelled r (value.newtype_variant name v) g levels = in_variant name (spell_as r v) (spelled r v g) levels
   spelled r (value.tuple vs) g levels = enclosed array (spell_items_as r 0 vs) (items_spelled r 0 vs g) levels
   spelled r (value.tuple_structure name vs) g levels = enclosed array (spell_items_as r 0 vs) (items_spelled r 0 vs g) levels
@@ -176,6 +168,7 @@ mutual
   spelled r (value.structure name fs) g levels =
       struct_or (reserved_kind name) fs (spell_fields_as r fs) (scoped_code (spell_list r fs levels []))
       (scopes_alike HoldsIn (spell_list r fs levels []) (spell_list r fs levels []) (list_holds r fs levels g [] tt)) (fields_spelled r fs g) levels
+  spelled r v g levels = tt
 
   items_spelled : (r : Bool) (i : ℕ) (vs : Items) → ItemsSigned vs → (levels : ℕ) → HoldsNumbers (spell_items_as r i vs levels)
   items_spelled r i no_items g levels = tt
@@ -236,17 +229,12 @@ word_small n h = grind (arith, ints, h)
 
 mutual
   tree_signed : (t : Tree) → IsGivenTree t → AreSigned (datum itself t)
-  tree_signed (tree.double bits) g = tt
-  tree_signed (tree.string x) g = tt
   tree_signed (tree.document ps) g = pairs_signed ps g
   tree_signed (tree.array ts) g = trees_signed ts g
-  tree_signed (tree.binary zero b) g = tt
   tree_signed (tree.binary (suc n) b) g = ((tt, (tt, tt)), tt)
   tree_signed tree.undefined g = (tt, tt)
   tree_signed (tree.object_id id) g = (tt, tt)
-  tree_signed (tree.boolean b) g = tt
   tree_signed (tree.date_time n) g = ((tt, tt), tt)
-  tree_signed tree.null g = tt
   tree_signed (tree.regular_expression p q) g = ((tt, (tt, tt)), tt)
   tree_signed (tree.db_pointer namespace id) g = ((tt, ((tt, tt), tt)), tt)
   tree_signed (tree.javascript_code x) g = (tt, tt)
@@ -259,6 +247,7 @@ mutual
   tree_signed tree.max_key g = (refl, tt)
   tree_signed tree.min_key g = (refl, tt)
   tree_signed (tree.raw k b) g = absurd g
+  tree_signed t g = tt
 
   pairs_signed : (ps : Pairs) → ArePairsGiven ps → EntriesSigned (pair_data itself ps)
   pairs_signed no_pairs g = tt

@@ -141,10 +141,7 @@ mutual
   spell_is (double bits) t levels e c d = ap Ok (tree_is (tree.double bits) t e)
   spell_is (character x) t levels e c d = ap Ok (tree_is (string (encode_utf8 x)) t e)
   spell_is (bytes bs) t levels e c d = let is = tree_is (binary 0 bs) t e in binary_spelled 0 bs (subst IsClean (sym is) c) ∙ ap Ok is
-  spell_is none t levels e c d = ap Ok (tree_is null t e)
   spell_is (some v) t levels e c d = spell_is v t levels e c d
-  spell_is unit t levels e c d = ap Ok (tree_is null t e)
-  spell_is (unit_structure name) t levels e c d = ap Ok (tree_is null t e)
   spell_is (newtype name v) t levels e c d =
       newtype_meant name v t e
       (λ is bs u same.
@@ -188,6 +185,7 @@ mutual
   spell_is (structure name fs) t levels e c d =
       struct_spelled levels (reserved_kind name) fs (scoped_code (means_list fs [])) (scoped_code (spell_list false fs levels [])) t
       (scopes_alike (IsMeant levels) (means_list fs []) (spell_list false fs levels []) (list_meant fs levels [] [] tt)) (λ ps n h c' le. spell_fields_are fs ps n h c' le) e c d
+  spell_is v t levels e c d = ap Ok (tree_is null t e)
 
   pub spell_items_are : (i : ℕ) (vs : Items) (ts : Trees) (levels : ℕ) → means_items vs ≡ Some ts → AreTreesClean ts → trees_depth ts ≤ levels → spell_items i vs levels ≡ Ok ts
   spell_items_are i no_items ts levels e c d = ap Ok (trees_are no_trees ts e)

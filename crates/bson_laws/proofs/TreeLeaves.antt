@@ -29,15 +29,7 @@ kind_alike b byte_strings n h = absurd h
 kind_alike b raw_documents n h = absurd h
 kind_alike b raw_arrays n h = absurd h
 kind_alike b raw_values n h = absurd h
-kind_alike b anything n h = refl
-kind_alike b ignored n h = refl
-kind_alike b booleans n h = refl
-kind_alike b (numbers type) n h = refl
-kind_alike b doubles n h = refl
-kind_alike b characters n h = refl
-kind_alike b byte_buffers n h = refl
-kind_alike b units n h = refl
-kind_alike b (extended_values k) n h = refl
+kind_alike b k n h = refl
 
 then_alike : (r : Reading Node) (f g : Node → Reading Marked) → ((n : Node) → f n ≡ g n) → (r >>= f) ≡ (r >>= g)
 then_alike (Ok n) f g same = same n

@@ -217,10 +217,8 @@ uuid_again false b bs v r e = absurd (no_some e)
 -- what a clean tree is there is read from it
 pub extended_again : (at : Sight) (k : ExtendedLeaf) (t : Tree) (v : Value) (levels : ℕ) → IsClean t → depth t ≤ levels → views_extended k t ≡ Some v → ReadAs contents (read_extended k (tree_node at t levels)) v
 extended_again at object_ids (tree.object_id id) v levels c d e = (datum made (tree.object_id id), refl, some_is (datum itself (tree.object_id id)) v e)
-extended_again at object_ids t v levels c d e = absurd (no_some e)
 extended_again at uuids (tree.binary zero b) v levels c d e = absurd (no_some e)
 extended_again at uuids (tree.binary (suc n) b) v levels c d e = uuid_again (nat_eq (suc n) 4) (nat_eq (length b) 16) b v _ e
-extended_again at uuids t v levels c d e = absurd (no_some e)
 extended_again at (of_kind k) t v levels c d e =
     subst (λ (r : Reading Tree). ReadAs contents (result_map (datum made) (r >>= tree_of_kind k)) v) (sym (tree_again at t levels (clean_readable t c) d))
     (kind_again (nat_eq (byte (kind (sorted_tree t))) (byte k)) t v (ap (λ j. cond (nat_eq (byte j) (byte k)) (Some (datum itself (sorted_tree t))) None) (sorted_kind t) ∙ e))
@@ -229,4 +227,4 @@ extended_again at leaf_kinds.trees t v levels c d e =
 extended_again at documents (tree.document ps) v levels c d e =
     let u = sorted_tree (tree.document ps) in
     (datum made u, ap (λ r. result_map (λ qs. datum made (tree.document qs)) (r >>= pairs_in)) (tree_again at (tree.document ps) levels (clean_readable (tree.document ps) c) d), datum_contents u ∙ some_is (datum itself u) v e)
-extended_again at documents t v levels c d e = absurd (no_some e)
+extended_again at k t v levels c d e = absurd (no_some e)

@@ -18,9 +18,7 @@ module _ (m : ℕ) where
 
   unit_unrolled : (c : Content) (g : Meanings) → is_unit (unrolled_content m c g) ≡ is_unit c
   unit_unrolled unit_content g = refl
-  unit_unrolled (newtype_content s) g = refl
-  unit_unrolled (tuple_content ps) g = refl
-  unit_unrolled (struct_content fs) g = refl
+  unit_unrolled c g = refl
 
   pub units_unrolled : (vs : Variants) (g : Meanings) → are_units (unrolled_variants m vs g) ≡ are_units vs
   units_unrolled no_variants g = refl

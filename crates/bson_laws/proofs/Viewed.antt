@@ -113,40 +113,28 @@ uuid_taken false b bs v h is e = absurd (no_some e)
 
 extended_taken : (k : ExtendedLeaf) (t : Tree) (v : Value) → IsClean t → views_extended k t ≡ Some v → FitsExtended k v
 extended_taken object_ids (tree.object_id id) v c e = record { of_tree = sorted_value (tree.object_id id) v c e; has_kind = refl }
-extended_taken object_ids t v c e = absurd (no_some e)
 extended_taken uuids (binary n b) v c e = uuid_taken (nat_eq n 4) (nat_eq (length b) 16) b v c.are_bytes refl e
-extended_taken uuids t v c e = absurd (no_some e)
 extended_taken (of_kind k) t v c e = kind_taken (nat_eq (byte (kind t)) (byte k)) k t v c refl e
 extended_taken trees t v c e = sorted_value t v c e
 extended_taken documents (document ps) v c e = record { of_tree = sorted_value (document ps) v c e; has_kind = refl }
-extended_taken documents t v c e = absurd (no_some e)
+extended_taken k t v c e = absurd (no_some e)
 
 leaf_taken : (k : LeafKind) (t : Tree) (v : Value) → IsClean t → views_leaf k t ≡ Some v → FitsLeaf k v
 leaf_taken anything t v c e = any_fits t v c e
-leaf_taken ignored t v c e = absurd (no_some e)
 leaf_taken booleans (boolean b) v c e = subst (FitsLeaf booleans) (some_is (value.boolean b) v e) tt
-leaf_taken booleans t v c e = absurd (no_some e)
 leaf_taken (numbers type) (int32 n) v c e = let r = in_range_or type n (in_range type n) v e in subst (FitsLeaf (numbers type)) (sym r.2) (refl, r.1)
 leaf_taken (numbers type) (int64 n) v c e = let r = in_range_or type n (in_range type n) v e in subst (FitsLeaf (numbers type)) (sym r.2) (refl, r.1)
-leaf_taken (numbers type) t v c e = absurd (no_some e)
 leaf_taken doubles (double bits) v c e = subst (FitsLeaf doubles) (some_is (value.double bits) v e) c
-leaf_taken doubles t v c e = absurd (no_some e)
 leaf_taken characters (string t) v c e =
     let m = some_map value.character (one_character (chars t)) v e in
     subst (FitsLeaf characters) m.2 (one_scalar (chars t) m.0 (scalars-chars t (IsUtf8-from_is_utf8 t c)) m.1)
-leaf_taken characters t v c e = absurd (no_some e)
 leaf_taken texts (string t) v c e = subst (FitsLeaf texts) (some_is (value.str t) v e) c
-leaf_taken texts t v c e = absurd (no_some e)
 leaf_taken byte_strings (binary zero bs) v c e = subst (FitsLeaf byte_strings) (some_is (value.bytes bs) v e) c.are_bytes
-leaf_taken byte_strings t v c e = absurd (no_some e)
 leaf_taken byte_buffers (binary zero bs) v c e = subst (FitsLeaf byte_buffers) (some_is (value.bytes bs) v e) c.are_bytes
 leaf_taken byte_buffers t v c e = absurd cc
 leaf_taken units null v c e = subst (FitsLeaf units) (some_is value.unit v e) tt
-leaf_taken units t v c e = absurd (no_some e)
 leaf_taken (extended_values k) t v c e = extended_taken k t v c e
-leaf_taken raw_documents t v c e = absurd (no_some e)
-leaf_taken raw_arrays t v c e = absurd (no_some e)
-leaf_taken raw_values t v c e = absurd (no_some e)
+leaf_taken k t v c e = absurd (no_some e)
 
 -- ---- options and missing fields
 
@@ -207,39 +195,30 @@ mutual
   views_fit (leaf l) t v c e = leaf_fits v l (leaf_taken (leaf_kind l) t v c e)
   views_fit (optional s) t v c e = option_fits s t v (λ w h. views_fit s t w c h) e
   views_fit (lossy s) t v c e = lossy_fits v s (views_fit s t v c e)
-  views_fit (human_readable s) t v c e = absurd (no_some e)
-  views_fit (by_mode readable compact) t v c e = absurd (no_some e)
-  views_fit (reference name) t v c e = absurd (no_some e)
   views_fit (definitions h s) t v c e = body_fits v h s (views_fit s t v c e)
   views_fit (newtype name s) t v c e =
       let m = some_map (value.newtype name) (views s t) v e in
       subst (λ x. Fits x (newtype name s)) m.2 (refl, views_fit s t m.0 c m.1)
   views_fit (unit_structure name) null v c e = subst (λ x. Fits x (unit_structure name)) (some_is (value.unit_structure name) v e) refl
-  views_fit (unit_structure name) t v c e = absurd (no_some e)
   views_fit (sequence s) (array ts) v c e =
       let b = some_map value.sequence (views_items (views s) ts) v e in
       subst (λ x. Fits x (sequence s)) b.2 (items_fit s (λ t w. views_fit s t w) ts b.0 c b.1)
-  views_fit (sequence s) t v c e = absurd (no_some e)
   views_fit (map key s) (document ps) v c e =
       let b = some_map value.map (views_entries (views_key key) (views s) ps) v e in
       subst (λ x. Fits x (map key s)) b.2 (entries_fit key s (λ t w. views_fit s t w) ps b.0 c b.1)
-  views_fit (map key s) t v c e = absurd (no_some e)
   views_fit (structure u name fs) (document ps) v c e =
       let k = where_known (all_known u fs ps) (option_map (value.structure name) (views_fields fs ps)) v e in
       let b = some_map (value.structure name) (views_fields fs ps) v k.1 in
       subst (λ x. Fits x (structure u name fs)) b.2 (refl, views_fields_fit fs ps b.0 c b.1)
-  views_fit (structure u name fs) t v c e = absurd (no_some e)
   views_fit (tuple ps) (array ts) v c e =
       let b = some_map value.tuple (views_parts ps ts) v e in
       subst (λ x. Fits x (tuple ps)) b.2 (views_parts_fit ps ts b.0 c b.1)
-  views_fit (tuple ps) t v c e = absurd (no_some e)
   views_fit (tuple_structure name ps) (array ts) v c e =
       let b = some_map (value.tuple_structure name) (views_parts ps ts) v e in
       subst (λ x. Fits x (tuple_structure name ps)) b.2 (refl, views_parts_fit ps ts b.0 c b.1)
-  views_fit (tuple_structure name ps) t v c e = absurd (no_some e)
   views_fit (enumeration vs) (string name) v c e = let h = unit_is name (content_of vs name) v e in subst (λ x. Fits x (enumeration vs)) (sym h.1) h.0
   views_fit (enumeration vs) (document (pair name t no_pairs)) v c e = let f = views_variant_fit vs name t v c.2 e in variant_fits vs name f.0 v f.1 f.2
-  views_fit (enumeration vs) t v c e = absurd (no_some e)
+  views_fit s t v c e = absurd (no_some e)
 
   views_parts_fit : (ps : Parts) (ts : Trees) (vs : Items) → AreTreesClean ts → views_parts ps ts ≡ Some vs → PartsFit vs ps
   views_parts_fit no_parts no_trees vs c e = subst (λ x. PartsFit x no_parts) (some_is no_items vs e) tt
@@ -255,12 +234,10 @@ mutual
       chosen_fits (bytes_eq n name) n name d (content_of vs name) (views_content n d t) (views_variant vs name t) v refl e (λ h. views_content_fit d n t v c h) (λ h. views_variant_fit vs name t v c h)
 
   views_content_fit : (d : Content) (name : Utf8) (t : Tree) (v : Value) → IsClean t → views_content name d t ≡ Some v → FitsContent name d v
-  views_content_fit unit_content name t v c e = absurd (no_some e)
   views_content_fit (newtype_content s) name t v c e = let m = some_map (value.newtype_variant name) (views s t) v e in (m.0, sym m.2, views_fit s t m.0 c m.1)
   views_content_fit (tuple_content ps) name (array ts) v c e = let m = some_map (value.tuple_variant name) (views_parts ps ts) v e in (m.0, sym m.2, views_parts_fit ps ts m.0 c m.1)
-  views_content_fit (tuple_content ps) name t v c e = absurd (no_some e)
   views_content_fit (struct_content fs) name (document ps) v c e = let m = some_map (value.structure_variant name) (views_fields fs ps) v e in (m.0, sym m.2, views_fields_fit fs ps m.0 c m.1)
-  views_content_fit (struct_content fs) name t v c e = absurd (no_some e)
+  views_content_fit d name t v c e = absurd (no_some e)
 
   views_fields_fit : (fs : Fields) (ps : Pairs) (vs : FieldValues) → ArePairsClean ps → views_fields fs ps ≡ Some vs → FieldsFit vs fs
   views_fields_fit no_fields ps vs c e = subst (λ x. FieldsFit x no_fields) (some_is no_field_values vs e) tt
@@ -349,38 +326,25 @@ uuid_normal false b t bs v e = absurd (no_some e)
 
 extended_normal : (k : ExtendedLeaf) (t : Tree) (v : Value) → IsClean t → views_extended k t ≡ Some v → IsNormal t v
 extended_normal object_ids (tree.object_id id) v c e = sorted_normal (tree.object_id id) v c e
-extended_normal object_ids t v c e = absurd (no_some e)
 extended_normal uuids (binary n b) v c e = uuid_normal (nat_eq n 4) (nat_eq (length b) 16) (binary n b) b v e
-extended_normal uuids t v c e = absurd (no_some e)
 extended_normal (of_kind k) t v c e = kind_normal (nat_eq (byte (kind t)) (byte k)) t v c e
 extended_normal trees t v c e = sorted_normal t v c e
 extended_normal documents (document ps) v c e = sorted_normal (document ps) v c e
-extended_normal documents t v c e = absurd (no_some e)
+extended_normal k t v c e = absurd (no_some e)
 
 leaf_normal : (k : LeafKind) (t : Tree) (v : Value) → IsClean t → views_leaf k t ≡ Some v → IsNormal t v
 leaf_normal anything t v c e = any_normal t v e
-leaf_normal ignored t v c e = absurd (no_some e)
 leaf_normal booleans (boolean b) v c e = subst (IsNormal (boolean b)) (some_is (value.boolean b) v e) (refl, λ h. absurd cc)
-leaf_normal booleans t v c e = absurd (no_some e)
 leaf_normal (numbers type) (int32 n) v c e = number_normal type n (int32 n) v e
 leaf_normal (numbers type) (int64 n) v c e = number_normal type n (int64 n) v e
-leaf_normal (numbers type) t v c e = absurd (no_some e)
 leaf_normal doubles (double bits) v c e = subst (IsNormal (double bits)) (some_is (value.double bits) v e) (refl, λ h. absurd cc)
-leaf_normal doubles t v c e = absurd (no_some e)
 leaf_normal characters (string t) v c e = let m = some_map value.character (one_character (chars t)) v e in subst (IsNormal (string t)) m.2 (refl, λ h. absurd cc)
-leaf_normal characters t v c e = absurd (no_some e)
 leaf_normal texts (string t) v c e = subst (IsNormal (string t)) (some_is (value.str t) v e) (refl, λ h. absurd cc)
-leaf_normal texts t v c e = absurd (no_some e)
 leaf_normal byte_strings (binary zero bs) v c e = subst (IsNormal (binary zero bs)) (some_is (value.bytes bs) v e) (refl, λ h. absurd cc)
-leaf_normal byte_strings t v c e = absurd (no_some e)
 leaf_normal byte_buffers (binary zero bs) v c e = subst (IsNormal (binary zero bs)) (some_is (value.bytes bs) v e) (refl, λ h. absurd cc)
-leaf_normal byte_buffers t v c e = absurd (no_some e)
 leaf_normal units null v c e = subst (IsNormal null) (some_is value.unit v e) (refl, λ h. refl)
-leaf_normal units t v c e = absurd (no_some e)
 leaf_normal (extended_values k) t v c e = extended_normal k t v c e
-leaf_normal raw_documents t v c e = absurd (no_some e)
-leaf_normal raw_arrays t v c e = absurd (no_some e)
-leaf_normal raw_values t v c e = absurd (no_some e)
+leaf_normal k t v c e = absurd (no_some e)
 
 -- some value that does not mean null stays
 stays : (o : Option Tree) (v : Value) → (o ≡ Some null → ⊥) → some_or_none o v ≡ value.some v
@@ -474,38 +438,31 @@ mutual
   views_normal (lossy s) t v p c e = views_normal s t v p.1 c e
   views_normal (human_readable s) t v p c e = absurd p
   views_normal (by_mode readable compact) t v p c e = absurd p
-  views_normal (reference name) t v p c e = absurd (no_some e)
   views_normal (definitions h s) t v p c e = views_normal s t v p.1 c e
   views_normal (newtype name s) t v p c e =
       let m = some_map (value.newtype name) (views s t) v e in
       let inner = views_normal s t m.0 p.1 c m.1 in
       subst (IsNormal t) m.2 (ap (value.newtype name) inner.0, λ h. inner.1 (null_newtype name m.0 h))
   views_normal (unit_structure name) null v p c e = subst (IsNormal null) (some_is (value.unit_structure name) v e) (refl, λ h. refl)
-  views_normal (unit_structure name) t v p c e = absurd (no_some e)
   views_normal (sequence s) (array ts) v p c e =
       let b = some_map value.sequence (views_items (views s) ts) v e in
       subst (IsNormal (array ts)) b.2 (ap value.sequence (items_normal s (λ t w. views_normal s t w p) ts b.0 c b.1), λ h. absurd (no_sequence b.0 h))
-  views_normal (sequence s) t v p c e = absurd (no_some e)
   views_normal (map key s) (document ps) v p c e =
       let b = some_map value.map (views_entries (views_key key) (views s) ps) v e in
       subst (IsNormal (document ps)) b.2 (ap value.map (entries_normal key s (λ t w. views_normal s t w p.2) ps b.0 c b.1), λ h. absurd (no_map b.0 h))
-  views_normal (map key s) t v p c e = absurd (no_some e)
   views_normal (structure u name fs) (document ps) v p c e =
       let k = where_known (all_known u fs ps) (option_map (value.structure name) (views_fields fs ps)) v e in
       let b = some_map (value.structure name) (views_fields fs ps) v k.1 in
       subst (IsNormal (document ps)) b.2 (free_norm name b.0 (free_struct_name name p.0) ∙ ap (value.structure name) (fields_normal fs ps b.0 p.1 c b.1), λ h. absurd (no_structure name b.0 h))
-  views_normal (structure u name fs) t v p c e = absurd (no_some e)
   views_normal (tuple ps) (array ts) v p c e =
       let b = some_map value.tuple (views_parts ps ts) v e in
       subst (IsNormal (array ts)) b.2 (ap value.tuple (parts_normal ps ts b.0 p c b.1), λ h. absurd (no_sequence b.0 h))
-  views_normal (tuple ps) t v p c e = absurd (no_some e)
   views_normal (tuple_structure name ps) (array ts) v p c e =
       let b = some_map (value.tuple_structure name) (views_parts ps ts) v e in
       subst (IsNormal (array ts)) b.2 (ap (value.tuple_structure name) (parts_normal ps ts b.0 p c b.1), λ h. absurd (no_sequence b.0 h))
-  views_normal (tuple_structure name ps) t v p c e = absurd (no_some e)
   views_normal (enumeration vs) (string name) v p c e = subst (IsNormal (string name)) (sym (unit_is name (content_of vs name) v e).1) (refl, λ h. absurd cc)
   views_normal (enumeration vs) (document (pair name t no_pairs)) v p c e = let n = variant_normal vs name t v p c.2 e in (n.0, λ h. absurd (n.1 h))
-  views_normal (enumeration vs) t v p c e = absurd (no_some e)
+  views_normal s t v p c e = absurd (no_some e)
 
   parts_normal : (ps : Parts) (ts : Trees) (vs : Items) → ArePartsPlain ps → AreTreesClean ts → views_parts ps ts ≡ Some vs → norm_items vs ≡ vs
   parts_normal no_parts no_trees vs p c e = subst (λ x. norm_items x ≡ x) (some_is no_items vs e) refl
@@ -521,18 +478,16 @@ mutual
       chosen_holds {P = IsVariantNormal v} (bytes_eq n name) (views_content n d t) (views_variant vs name t) v e (λ h. content_normal d n t v p.1 c h) (λ h. variant_normal vs name t v p.2 c h)
 
   content_normal : (d : Content) (name : Utf8) (t : Tree) (v : Value) → IsContentPlain d → IsClean t → views_content name d t ≡ Some v → IsVariantNormal v
-  content_normal unit_content name t v p c e = absurd (no_some e)
   content_normal (newtype_content s) name t v p c e =
       let m = some_map (value.newtype_variant name) (views s t) v e in
       subst IsVariantNormal m.2 (ap (value.newtype_variant name) (views_normal s t m.0 p c m.1).0, λ h. no_variant (λ x. x) name (means m.0) h)
   content_normal (tuple_content ps) name (array ts) v p c e =
       let m = some_map (value.tuple_variant name) (views_parts ps ts) v e in
       subst IsVariantNormal m.2 (ap (value.tuple_variant name) (parts_normal ps ts m.0 p c m.1), λ h. no_variant array name (means_items m.0) h)
-  content_normal (tuple_content ps) name t v p c e = absurd (no_some e)
   content_normal (struct_content fs) name (document ps) v p c e =
       let m = some_map (value.structure_variant name) (views_fields fs ps) v e in
       subst IsVariantNormal m.2 (ap (value.structure_variant name) (fields_normal fs ps m.0 p c m.1), λ h. no_variant document name (means_fields m.0) h)
-  content_normal (struct_content fs) name t v p c e = absurd (no_some e)
+  content_normal d name t v p c e = absurd (no_some e)
 
   fields_normal : (fs : Fields) (ps : Pairs) (vs : FieldValues) → AreFieldsPlain fs → ArePairsClean ps → views_fields fs ps ≡ Some vs → norm_fields vs ≡ vs
   fields_normal no_fields ps vs p c e = subst (λ x. norm_fields x ≡ x) (some_is no_field_values vs e) refl

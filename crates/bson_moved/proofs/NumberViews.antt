@@ -14,27 +14,7 @@ use Rattle.bson_moved.specs.Simple.{is_simple_leaf}
 -- at a kind of numbers a tree is the number that it has
 kind_same : (type : IntegerType) (t : Tree) → views_leaf (numbers type) t ≡ number_view (numbers type) t
 kind_same type (trees.double b) = refl
-kind_same type (trees.string b) = refl
-kind_same type (trees.document ps) = refl
-kind_same type (trees.array ts) = refl
-kind_same type (trees.binary n b) = refl
-kind_same type trees.undefined = refl
-kind_same type (trees.object_id b) = refl
-kind_same type (trees.boolean b) = refl
-kind_same type (trees.date_time n) = refl
-kind_same type trees.null = refl
-kind_same type (trees.regular_expression p o) = refl
-kind_same type (trees.db_pointer p b) = refl
-kind_same type (trees.javascript_code b) = refl
-kind_same type (trees.symbol b) = refl
-kind_same type (trees.javascript_code_with_scope b ps) = refl
-kind_same type (trees.int32 n) = refl
-kind_same type (trees.timestamp m n) = refl
-kind_same type (trees.int64 n) = refl
-kind_same type (trees.decimal128 b) = refl
-kind_same type trees.max_key = refl
-kind_same type trees.min_key = refl
-kind_same type (trees.raw k b) = refl
+kind_same type t = refl
 
 none_some : (f : ℤ → Option Value) (o : Option ℤ) → ((n : ℤ) → f n ≡ None) → is_some (option_and_then f o) ≡ true → ⊥
 none_some f None e h = absurd cc
@@ -70,24 +50,4 @@ number_same leaves.U8 t h b d s = kind_same u8 t
 number_same leaves.U16 t h b d s = kind_same u16 t
 number_same leaves.U32 t h b d s = kind_same u32 t
 number_same leaves.U64 t h b d s = kind_same u64 t
-number_same leaves.Any t h b d s = absurd cc
-number_same leaves.Ignored t h b d s = absurd cc
-number_same leaves.Char t h b d s = absurd cc
-number_same leaves.Str t h b d s = absurd cc
-number_same leaves.Bytes t h b d s = absurd cc
-number_same leaves.ByteBuf t h b d s = absurd cc
-number_same leaves.Unit t h b d s = absurd cc
-number_same leaves.ObjectId t h b d s = absurd cc
-number_same leaves.DateTime t h b d s = absurd cc
-number_same leaves.Binary t h b d s = absurd cc
-number_same leaves.Timestamp t h b d s = absurd cc
-number_same leaves.Regex t h b d s = absurd cc
-number_same leaves.CodeWithScope t h b d s = absurd cc
-number_same leaves.Decimal128 t h b d s = absurd cc
-number_same leaves.DbPointer t h b d s = absurd cc
-number_same leaves.Uuid t h b d s = absurd cc
-number_same leaves.Bson t h b d s = absurd cc
-number_same leaves.Document t h b d s = absurd cc
-number_same leaves.RawDocument t h b d s = absurd cc
-number_same leaves.RawArray t h b d s = absurd cc
-number_same leaves.RawBson t h b d s = absurd cc
+number_same l t h b d s = absurd cc

@@ -54,52 +54,12 @@ optional_present s (trees.raw k b) h = some_present value.some (views s (trees.r
 
 -- and is some of it, where the tree is not null
 pub optional_some : (s : Form) (t : Tree) → is_null t ≡ false → views (optional s) t ≡ option_map value.some (views s t)
-optional_some s (trees.double b) h = refl
-optional_some s (trees.string b) h = refl
-optional_some s (trees.document ps) h = refl
-optional_some s (trees.array ts) h = refl
-optional_some s (trees.binary n b) h = refl
-optional_some s trees.undefined h = refl
-optional_some s (trees.object_id b) h = refl
-optional_some s (trees.boolean b) h = refl
-optional_some s (trees.date_time n) h = refl
 optional_some s trees.null h = absurd cc
-optional_some s (trees.regular_expression p o) h = refl
-optional_some s (trees.db_pointer p b) h = refl
-optional_some s (trees.javascript_code b) h = refl
-optional_some s (trees.symbol b) h = refl
-optional_some s (trees.javascript_code_with_scope b ps) h = refl
-optional_some s (trees.int32 n) h = refl
-optional_some s (trees.timestamp m n) h = refl
-optional_some s (trees.int64 n) h = refl
-optional_some s (trees.decimal128 b) h = refl
-optional_some s trees.max_key h = refl
-optional_some s trees.min_key h = refl
-optional_some s (trees.raw k b) h = refl
+optional_some s t h = refl
 
 pub optional_null : (s : Form) (t : Tree) → is_null t ≡ true → views (optional s) t ≡ Some value.none
-optional_null s (trees.double b) h = absurd cc
-optional_null s (trees.string b) h = absurd cc
-optional_null s (trees.document ps) h = absurd cc
-optional_null s (trees.array ts) h = absurd cc
-optional_null s (trees.binary n b) h = absurd cc
-optional_null s trees.undefined h = absurd cc
-optional_null s (trees.object_id b) h = absurd cc
-optional_null s (trees.boolean b) h = absurd cc
-optional_null s (trees.date_time n) h = absurd cc
 optional_null s trees.null h = refl
-optional_null s (trees.regular_expression p o) h = absurd cc
-optional_null s (trees.db_pointer p b) h = absurd cc
-optional_null s (trees.javascript_code b) h = absurd cc
-optional_null s (trees.symbol b) h = absurd cc
-optional_null s (trees.javascript_code_with_scope b ps) h = absurd cc
-optional_null s (trees.int32 n) h = absurd cc
-optional_null s (trees.timestamp m n) h = absurd cc
-optional_null s (trees.int64 n) h = absurd cc
-optional_null s (trees.decimal128 b) h = absurd cc
-optional_null s trees.max_key h = absurd cc
-optional_null s trees.min_key h = absurd cc
-optional_null s (trees.raw k b) h = absurd cc
+optional_null s t h = absurd cc
 
 -- a struct that drops unknown fields has a value where its fields have values
 pub structure_present : (name : Utf8) (fs : Fields) (ps : Pairs) → is_some (views_fields fs ps) ≡ true → is_some (views (structure dropped name fs) (trees.document ps)) ≡ true

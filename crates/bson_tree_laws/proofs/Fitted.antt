@@ -33,29 +33,23 @@ use Rattle.bson_tree_laws.proofs.Writers.{writers}
 -- a tree as data: each extended value is the struct of its reserved name
 mutual
   datum_alike : (t : Tree) → IsInRange t → IsAlike (datum itself t)
-  datum_alike (tree.double bits) r = tt
-  datum_alike (tree.string t) r = tt
   datum_alike (tree.document ps) r = pairs_alike ps r
   datum_alike (tree.array ts) r = trees_alike ts r
-  datum_alike (tree.binary zero b) r = tt
   datum_alike (tree.binary (suc n) b) r = ((tree.binary (suc n) b, r.0, refl), ((tt, (tt, (tt, tt))), tt))
   datum_alike tree.undefined r = ((tree.undefined, tt, refl), (tt, tt))
   datum_alike (tree.object_id id) r = ((tree.object_id id, tt, refl), (tt, tt))
-  datum_alike (tree.boolean b) r = tt
   datum_alike (tree.date_time n) r = ((tree.date_time n, tt, refl), ((tt, (tt, tt)), tt))
-  datum_alike tree.null r = tt
   datum_alike (tree.regular_expression pattern options) r = ((tree.regular_expression pattern options, tt, refl), ((tt, (tt, (tt, tt))), tt))
   datum_alike (tree.db_pointer namespace id) r = ((tree.db_pointer namespace id, tt, refl), ((tt, (tt, ((tt, (tt, tt)), tt))), tt))
   datum_alike (tree.javascript_code t) r = ((tree.javascript_code t, tt, refl), (tt, tt))
   datum_alike (tree.symbol t) r = ((tree.symbol t, tt, refl), (tt, tt))
   datum_alike (tree.javascript_code_with_scope code scope) r = ((tree.javascript_code_with_scope code scope, tt, refl), (tt, (pairs_alike scope r.1, tt)))
-  datum_alike (tree.int32 n) r = tt
   datum_alike (tree.timestamp time increment) r = ((tree.timestamp time increment, tt, refl), ((tt, (tt, (tt, tt))), tt))
-  datum_alike (tree.int64 n) r = tt
   datum_alike (tree.decimal128 b) r = ((tree.decimal128 b, tt, refl), (tt, tt))
   datum_alike tree.max_key r = ((tree.max_key, tt, refl), (tt, tt))
   datum_alike tree.min_key r = ((tree.min_key, tt, refl), (tt, tt))
   datum_alike (tree.raw k b) r = absurd r
+  datum_alike t r = tt
 
   pairs_alike : (ps : Pairs) → ArePairsInRange ps → EntriesAlike (pair_data itself ps)
   pairs_alike no_pairs r = tt
@@ -69,11 +63,9 @@ tree_alike : (v : Value) → IsTreeValue v → IsAlike v
 tree_alike v h = subst IsAlike h.is_datum (datum_alike h.tree h.ranges)
 
 extended_alike : (k : ExtendedLeaf) (v : Value) → FitsExtended k v → IsAlike v
-extended_alike object_ids v h = tree_alike v h.of_tree
 extended_alike uuids v h = subst IsAlike h.is_datum (tt, tt)
-extended_alike (of_kind k) v h = tree_alike v h.of_tree
 extended_alike trees v h = tree_alike v h
-extended_alike documents v h = tree_alike v h.of_tree
+extended_alike k v h = tree_alike v h.of_tree
 
 text_alike : (v : Value) → IsText v → IsAlike v
 text_alike (value.str t) h = tt

@@ -52,11 +52,9 @@ tree_one : (v : Value) → IsTreeValue v → HasOneForm v
 tree_one v h = subst HasOneForm h.is_datum (datum_one h.tree)
 
 extended_one : (k : ExtendedLeaf) (v : Value) → FitsExtended k v → HasOneForm v
-extended_one object_ids v h = tree_one v h.of_tree
 extended_one uuids v h = subst HasOneForm h.is_datum (λ levels. uuid_spelled true h.id levels h.sixteen ∙ sym (uuid_spelled false h.id levels h.sixteen))
-extended_one (of_kind k) v h = tree_one v h.of_tree
 extended_one trees v h = tree_one v h
-extended_one documents v h = tree_one v h.of_tree
+extended_one k v h = tree_one v h.of_tree
 
 text_one : (v : Value) → IsText v → HasOneForm v
 text_one (value.str t) h levels = refl

@@ -82,13 +82,7 @@ flat_free v h levels u e = flat_tree u (subst IsFlat (sym (spell_kind false v le
 
 flat_number : (type : IntegerType) → IsFlat (written_as type)
 flat_number i8 = tt
-flat_number i16 = tt
-flat_number i32 = tt
-flat_number i64 = tt
-flat_number u8 = tt
-flat_number u16 = tt
-flat_number u32 = tt
-flat_number u64 = tt
+flat_number type = tt
 
 -- ---- containers
 
@@ -181,15 +175,13 @@ kind_free false t v c e = absurd (no_some e)
 
 extended_free : (k : ExtendedLeaf) (t : Tree) (v : Value) → IsClean t → views_extended k t ≡ Some v → IsFree v
 extended_free object_ids (tree.object_id id) v c e = datum_free (tree.object_id id) v c e
-extended_free object_ids t v c e = absurd (no_some e)
 extended_free uuids (binary n b) v c e =
     let h = where_known (nat_eq n 4 && nat_eq (length b) 16) (Some (uuid_datum itself b)) v e in
     subst IsFree (some_is (uuid_datum itself b) v h.1) (flat_free (uuid_datum itself b) tt)
-extended_free uuids t v c e = absurd (no_some e)
 extended_free (of_kind k) t v c e = kind_free (nat_eq (byte (kind t)) (byte k)) t v c e
 extended_free trees t v c e = datum_free t v c e
 extended_free documents (document ps) v c e = datum_free (document ps) v c e
-extended_free documents t v c e = absurd (no_some e)
+extended_free k t v c e = absurd (no_some e)
 
 mutual
   any_free : (t : Tree) (v : Value) → IsClean t → views_any t ≡ Some v → IsFree v
@@ -224,28 +216,17 @@ number_free type false v w h e = absurd (no_some e)
 
 leaf_free : (k : LeafKind) (t : Tree) (v : Value) → IsClean t → views_leaf k t ≡ Some v → IsFree v
 leaf_free anything t v c e = any_free t v c e
-leaf_free ignored t v c e = absurd (no_some e)
 leaf_free booleans (tree.boolean b) v c e = subst IsFree (some_is (value.boolean b) v e) (flat_free (value.boolean b) tt)
-leaf_free booleans t v c e = absurd (no_some e)
 leaf_free (numbers type) (tree.int32 n) v c e = number_free type (in_range type n) (value.integer type n) v (flat_free (value.integer type n) (flat_number type)) e
 leaf_free (numbers type) (tree.int64 n) v c e = number_free type (in_range type n) (value.integer type n) v (flat_free (value.integer type n) (flat_number type)) e
-leaf_free (numbers type) t v c e = absurd (no_some e)
 leaf_free doubles (tree.double bits) v c e = subst IsFree (some_is (value.double bits) v e) (flat_free (value.double bits) tt)
-leaf_free doubles t v c e = absurd (no_some e)
 leaf_free characters (string t) v c e = let m = some_map value.character (one_character (chars t)) v e in subst IsFree m.2 (flat_free (value.character m.0) tt)
-leaf_free characters t v c e = absurd (no_some e)
 leaf_free texts (string t) v c e = subst IsFree (some_is (value.str t) v e) (flat_free (value.str t) tt)
-leaf_free texts t v c e = absurd (no_some e)
 leaf_free byte_strings (binary zero bs) v c e = subst IsFree (some_is (value.bytes bs) v e) (flat_free (value.bytes bs) tt)
-leaf_free byte_strings t v c e = absurd (no_some e)
 leaf_free byte_buffers (binary zero bs) v c e = subst IsFree (some_is (value.bytes bs) v e) (flat_free (value.bytes bs) tt)
-leaf_free byte_buffers t v c e = absurd (no_some e)
 leaf_free units null v c e = subst IsFree (some_is value.unit v e) (flat_free value.unit tt)
-leaf_free units t v c e = absurd (no_some e)
 leaf_free (extended_values k) t v c e = extended_free k t v c e
-leaf_free raw_documents t v c e = absurd (no_some e)
-leaf_free raw_arrays t v c e = absurd (no_some e)
-leaf_free raw_values t v c e = absurd (no_some e)
+leaf_free k t v c e = absurd (no_some e)
 
 -- ---- options, fields and entries
 
@@ -308,40 +289,31 @@ mutual
   views_free (leaf l) t v p k c e = leaf_free (leaf_kind l) t v c e
   views_free (optional s) t v p k c e = option_free s t v (λ w h. views_free s t w p k c h) e
   views_free (lossy s) t v p k c e = views_free s t v p.1 k c e
-  views_free (human_readable s) t v p k c e = absurd (no_some e)
-  views_free (by_mode readable compact) t v p k c e = absurd (no_some e)
-  views_free (reference name) t v p k c e = absurd (no_some e)
   views_free (definitions h s) t v p k c e = views_free s t v p.1 k c e
   views_free (newtype name s) t v p k c e =
       let m = some_map (value.newtype name) (views s t) v e in
       subst IsFree m.2 (newtype_free name m.0 p.0 (views_free s t m.0 p.1 k.1 c m.1))
   views_free (unit_structure name) null v p k c e = subst IsFree (some_is (value.unit_structure name) v e) (flat_free (value.unit_structure name) tt)
-  views_free (unit_structure name) t v p k c e = absurd (no_some e)
   views_free (sequence s) (array ts) v p k c e =
       let m = some_map value.sequence (views_items (views s) ts) v e in
       subst IsFree m.2 (array_free m.0 (items_free s (λ t w d h. views_free s t w p k d h) ts m.0 c m.1))
-  views_free (sequence s) t v p k c e = absurd (no_some e)
   views_free (map key s) (document ps) v p k c e =
       let m = some_map value.map (views_entries (views_key key) (views s) ps) v e in
       subst IsFree m.2 (map_free ps m.0 (entries_free key s (λ t w d h. views_free s t w p.2 k.2 d h) ps m.0 c m.1))
-  views_free (map key s) t v p k c e = absurd (no_some e)
   views_free (structure u name fs) (document ps) v p k c e =
       let h = where_known (all_known u fs ps) (option_map (value.structure name) (views_fields fs ps)) v e in
       let m = some_map (value.structure name) (views_fields fs ps) v h.1 in
       subst IsFree m.2 (struct_free name fs m.0 p.0 (views_fields_free fs ps m.0 p.1 k.0.distinct k.1 c m.1))
-  views_free (structure u name fs) t v p k c e = absurd (no_some e)
   views_free (tuple ps) (array ts) v p k c e =
       let m = some_map value.tuple (views_parts ps ts) v e in
       subst IsFree m.2 (array_free m.0 (views_parts_free ps ts m.0 p k c m.1))
-  views_free (tuple ps) t v p k c e = absurd (no_some e)
   views_free (tuple_structure name ps) (array ts) v p k c e =
       let m = some_map (value.tuple_structure name) (views_parts ps ts) v e in
       subst IsFree m.2 (array_free m.0 (views_parts_free ps ts m.0 p k.1 c m.1))
-  views_free (tuple_structure name ps) t v p k c e = absurd (no_some e)
   views_free (enumeration vs) (string name) v p k c e =
       subst IsFree (sym (unit_is name (content_of vs name) v e).1) (flat_free (value.unit_variant name) tt)
   views_free (enumeration vs) (document (pair name t no_pairs)) v p k c e = views_variant_free vs name t v p k.1 c.2 e
-  views_free (enumeration vs) t v p k c e = absurd (no_some e)
+  views_free s t v p k c e = absurd (no_some e)
 
   views_parts_free : (ps : Parts) (ts : Trees) (vs : Items) → ArePartsPlain ps → AreParts ps → AreTreesClean ts → views_parts ps ts ≡ Some vs → AreFree vs
   views_parts_free no_parts no_trees vs p k c e = subst AreFree (some_is no_items vs e) no_item
@@ -357,18 +329,16 @@ mutual
       chosen_holds (bytes_eq n name) (views_content n d t) (views_variant vs name t) v e (λ h. views_content_free d n t v p.0 p.1 k.1 c h) (λ h. views_variant_free vs name t v p.2 k.2 c h)
 
   views_content_free : (d : Content) (name : Utf8) (t : Tree) (v : Value) → IsFreeName name → IsContentPlain d → IsContent d → IsClean t → views_content name d t ≡ Some v → IsFree v
-  views_content_free unit_content name t v free p k c e = absurd (no_some e)
   views_content_free (newtype_content s) name t v free p k c e =
       let m = some_map (value.newtype_variant name) (views s t) v e in
       subst IsFree m.2 (variant_free name (spell m.0) free (λ n u w. views_free s t m.0 p k c m.1 n u w))
   views_content_free (tuple_content ps) name (array ts) v free p k c e =
       let m = some_map (value.tuple_variant name) (views_parts ps ts) v e in
       subst IsFree m.2 (variant_free name (λ n. enclosed_at array n (spell_items_as false 0 m.0)) free (λ n u w. array_free m.0 (views_parts_free ps ts m.0 p k c m.1) n u w))
-  views_content_free (tuple_content ps) name t v free p k c e = absurd (no_some e)
   views_content_free (struct_content fs) name (document ps) v free p k c e =
       let m = some_map (value.structure_variant name) (views_fields fs ps) v e in
       subst IsFree m.2 (variant_free name (λ n. enclosed_at document n (spell_fields m.0)) free (λ n u w. fields_free fs m.0 (views_fields_free fs ps m.0 p k.0 k.1 c m.1) n u w))
-  views_content_free (struct_content fs) name t v free p k c e = absurd (no_some e)
+  views_content_free d name t v free p k c e = absurd (no_some e)
 
   views_fields_free : (fs : Fields) (ps : Pairs) (vs : FieldValues) → AreFieldsPlain fs → AreDistinct fs → AreShapes fs → ArePairsClean ps → views_fields fs ps ≡ Some vs → FieldsFree fs vs
   views_fields_free no_fields ps vs p d k c e = subst (FieldsFree no_fields) (some_is no_field_values vs e) no_field

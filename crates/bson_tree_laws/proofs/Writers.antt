@@ -117,17 +117,8 @@ struct_agrees name fs (Some k) is w h readable levels u e f = wrap_agrees w.0 na
 
 mutual
   pub agrees : (v : Value) → IsAlike v → Agrees v
-  agrees (value.boolean b) a readable levels u e f = e
-  agrees (value.integer type n) a readable levels u e f = e
-  agrees (value.double b) a readable levels u e f = e
-  agrees (value.character c) a readable levels u e f = e
-  agrees (value.str t) a readable levels u e f = e
   agrees (value.bytes b) a readable levels u e f = ap Ok (kept _ _ (tree.binary 0 b) u e)
-  agrees value.none a readable levels u e f = e
   agrees (value.some v) a readable levels u e f = agrees v a readable levels u e f
-  agrees value.unit a readable levels u e f = e
-  agrees (value.unit_structure name) a readable levels u e f = e
-  agrees (value.unit_variant name) a readable levels u e f = e
   agrees (value.newtype name v) a readable levels u e f =
       newtype_agrees (bytes_eq name uuid_newtype) (uuid_bytes readable v) (spell_as (readable_inside readable name) v levels) (tree_spell (readable_inside readable name) false v levels) u
       (λ q. agrees v a (readable_inside readable name) levels u q f) e
@@ -148,6 +139,7 @@ mutual
   agrees (value.structure_variant name fs) a readable levels u e f =
       variant_agrees name (λ inside. enclosed_at document inside (spell_fields_as readable fs)) (λ inside. enclosed_at fold inside (tree_fields readable false fs no_pairs)) levels u
       (λ n t q g. fields_agree fs (each_put fs (each_agrees fs a)) readable n t q g) e f
+  agrees v a readable levels u e f = e
 
   items_agree : (vs : Items) → AreAlike vs → ItemsAgree vs
   items_agree value.no_items a readable i levels ts e f = e
