@@ -89,4 +89,5 @@ pub mod WritableUnrolled
 pub mod ShapeUnrolled
 pub mod PlainUnrolled
 pub mod AtShapes
+pub mod FitsUnrolled
 pub mod Scoped
