@@ -54,6 +54,30 @@ pub fn add_value<'de, T: Serialize + Deserialize<'de> + Debug + Drop>(
     }
 }
 
+/// How two numbers compare, alone and in the marks.
+pub fn add_comparisons(lines: &mut Lines) {
+    compare(lines, &5i32, &7i32);
+    compare(lines, &HumanReadable(5i32), &HumanReadable(7i32));
+    compare(
+        lines,
+        &Utf8LossyDeserialization(7i32),
+        &Utf8LossyDeserialization(5i32),
+    );
+    compare(lines, &HumanReadable(5i32), &HumanReadable(5i32));
+    compare(
+        lines,
+        &Utf8LossyDeserialization(5i32),
+        &Utf8LossyDeserialization(5i32),
+    );
+}
+
+/// Adds whether two values are equal, and how they compare, where they may not and where they do.
+fn compare<T: Ord>(lines: &mut Lines, value: &T, other: &T) {
+    lines.debug("equal", &(value == other));
+    lines.debug("partial_cmp", &value.partial_cmp(other));
+    lines.debug("cmp", &value.cmp(other));
+}
+
 /// A number, alone and in the marks; and what it is not read of.
 pub fn add_values(lines: &mut Lines, alloc: Global) {
     add_value(lines, alloc, &5i32);
