@@ -120,6 +120,7 @@ pub fn from_slice_at<'de>(alloc: Global, shape: &Shape, bytes: &'de [u8]) -> de:
 }
 
 /// `from_slice_at`, but for its promise on what is read back.
+#[tactic(auto, using(crate::proofs::Documents::frame_refused))]
 fn read_document<'de>(alloc: Global, shape: &Shape, bytes: &'de [u8]) -> de::Result<Datum<'de>>
     ensures exact { Reads marked result (reads_marked shape.now bytes.now) }
 {
@@ -143,6 +144,7 @@ fn read_document<'de>(alloc: Global, shape: &Shape, bytes: &'de [u8]) -> de::Res
 ///
 /// Those of [`from_slice_at`], with two exceptions: no value of these kinds is refused for a text that is not UTF-8, and `NotBorrowed` comes at `str` for every
 /// text, key and byte string that it takes, and at `bytes` for every text.
+#[tactic(auto, using(crate::proofs::Documents::frame_refused))]
 pub fn from_slice_utf8_lossy_at<'de>(
     alloc: Global,
     shape: &Shape,

@@ -1,4 +1,4 @@
-ghost use Rattle.std.specs.Prelude.{◌≤◌, IfOk};
+ghost use Rattle.std.specs.Prelude.{◌≡◌, ◌≤◌, IfOk, OnOk};
 ghost use Rattle.bson_values.specs.Returned.{Reads};
 ghost use Rattle.bson_datum.specs.Borrowed.{IsOwned};
 ghost use Rattle.bson_datum.specs.View.{view};
@@ -32,6 +32,8 @@ pub fn from_reader_at<'x, S: Source>(
     ensures read { ReadsOne view (read_first (reads_document shape.now)) (S.left source.old) (S.left source.new) (S.faults source.old) (S.faults source.new) result }
     ensures owned { IfOk result IsOwned }
     ensures later { S.faults source.old ≤ S.faults source.new }
+    // No call on the source failed, where there is a value.
+    ensures kept { OnOk result (S.faults source.new ≡ S.faults source.old) }
 {
     let bytes = take_document(alloc, source)?;
     owned_from(alloc, shape, &bytes)
@@ -51,6 +53,8 @@ pub fn from_reader_utf8_lossy_at<'x, S: Source>(
     ensures read { ReadsOne view (read_first (reads_lossy shape.now)) (S.left source.old) (S.left source.new) (S.faults source.old) (S.faults source.new) result }
     ensures owned { IfOk result IsOwned }
     ensures later { S.faults source.old ≤ S.faults source.new }
+    // No call on the source failed, where there is a value.
+    ensures kept { OnOk result (S.faults source.new ≡ S.faults source.old) }
 {
     let bytes = take_document(alloc, source)?;
     mended_from(alloc, shape, &bytes)

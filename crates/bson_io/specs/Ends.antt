@@ -1,6 +1,6 @@
 -- Sources and sinks: what they tell of their bytes, and what a failure shows.
 -- What a source has left and what a sink has written are `Some` bytes where they are told, else `None`. Source: std's `Read` and `Write`.
-use Rattle.std.specs.Prelude.{◌≡◌, ℕ, ◌+◌, ◌-◌, ◌^◌, ◌<◌, ◌≤◌, min, List, length, take, Result, Ok, OnErr, ⊤, Some, None, MatchResult}
+use Rattle.std.specs.Prelude.{◌≡◌, ℕ, ◌+◌, ◌-◌, ◌^◌, ◌<◌, ◌≤◌, min, List, length, take, Result, Ok, OnErr, OnOk, ⊤, Some, None, MatchResult}
 use Rattle.std.specs.declared.option.Option.{Option}
 use Rattle.std.specs.Io.KnownBytes.{Appends, Consumes}
 
@@ -16,15 +16,17 @@ Rose before now = before < now
 abbrev pub RoseOrLast : ℕ → ℕ → Type 0
 RoseOrLast before now = min (before + 1) last_count ≤ now
 
--- A source's count never falls, and it rose where the call failed.
+-- A source's count never falls: it rose where the call failed, and is as before where it did not.
 pub record HasCause {T E : Type 0} (before now : ℕ) (result : Result T E) : Type 0 where
   pub later : before ≤ now
   pub failed : OnErr result (Rose before now)
+  pub kept : OnOk result (now ≡ before)
 
--- A sink's count never falls, and it rose or is at its last value where the call failed.
+-- A sink's count never falls: it rose or is at its last value where the call failed, and is as before where it did not.
 pub record HasSinkCause {T E : Type 0} (before now : ℕ) (result : Result T E) : Type 0 where
   pub later : before ≤ now
   pub failed : OnErr result (RoseOrLast before now)
+  pub kept : OnOk result (now ≡ before)
 
 -- A call that has nothing to move answers Ok(0), and neither the bytes nor the count change.
 pub record IsIdle {E : Type 0} (old new : Option (List ℕ)) (before now : ℕ) (result : Result ℕ E) : Type 0 where

@@ -19,7 +19,8 @@ pub trait Source {
 
     /// Moves bytes from the front of what is left to the front of the buffer, and returns how many.
     /// With room in the buffer `Ok(0)` means that none are left.
-    /// It fails only where the count of faults rises, and then nothing is taken.
+    /// It fails only where the count of faults rises, and then nothing is taken; where it does not fail
+    /// the count stays.
     /// On an empty buffer it returns `Ok(0)` and changes nothing.
     fn read(&mut self, buf: &mut [u8]) -> Result<usize, Failed>
         ensures bound { ReadsAtMost result buf.new }
@@ -42,7 +43,7 @@ pub trait Sink {
 
     /// Appends some first bytes of the piece, at least one of a piece that is not empty, and returns
     /// how many. It fails only where the count of faults rises or is at its last value, and then
-    /// nothing is written. On an empty piece it returns `Ok(0)` and changes nothing.
+    /// nothing is written; where it does not fail the count stays. On an empty piece it returns `Ok(0)` and changes nothing.
     fn write(&mut self, piece: &[u8]) -> Result<usize, Failed>
         ensures bound { WritesAtMost result piece.now }
         ensures bytes { WriteAppends (written self.old) (written self.new) result piece.now }

@@ -51,8 +51,9 @@ pub fn read_to_end<I: Source>(alloc: Global, input: &mut I) -> Result<Vec<u8>, R
     ensures too_long { result ≡ Err ReadFault.TooLong → TakesExactly (MOST + 1) (I.left input.old) (I.left input.new) }
     ensures within { result ≢ Err ReadFault.TooLong → TakesAtMost MOST (I.left input.old) (I.left input.new) }
 
-    // `Failed` comes only where a call on the source failed.
+    // `Failed` comes only where a call on the source failed; wherever else it ends, no call did.
     ensures failed { result ≡ Err ReadFault.Failed → Rose (I.faults input.old) (I.faults input.new) }
+    ensures kept { result ≢ Err ReadFault.Failed → I.faults input.new ≡ I.faults input.old }
     ensures later { I.faults input.old ≤ I.faults input.new }
 {
     let mut bytes = Vec::new(alloc);

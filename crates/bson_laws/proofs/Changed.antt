@@ -7,7 +7,7 @@ use Rattle.bson_base.specs.Made.{digits}
 use Rattle.bson_kinds.specs.Text.{Bytes, Utf8}
 use Rattle.bson_kinds.specs.Outcome.{◌>>=◌, result_map, or_else}
 use Rattle.bson_kinds.proofs.Outcomes.{ok_is, map_ok, bind_ok}
-use Rattle.bson_rawdoc.specs.Node.{Whole, Node, double, string, document, array, bytes, boolean, null, int32, int64, extended, too_deep, Extended, binary, object_id, regular_expression, db_pointer, javascript_code, symbol, javascript_code_with_scope, Nodes, ended, faulty, then_node, text_fault, fault, extended_fault, piece, mended}
+use Rattle.bson_rawdoc.specs.Node.{Whole, Node, double, string, document, array, bytes, boolean, null, int32, int64, extended, too_deep, Extended, binary, object_id, regular_expression, db_pointer, javascript_code, symbol, javascript_code_with_scope, decimal128, Nodes, ended, faulty, then_node, text_fault, fault, extended_fault, piece, mended}
 use Rattle.bson_kinds.specs.Piece.{Piece, made}
 use Rattle.bson_faults.specs.declared.raw.Error.{Error}
 use Rattle.bson_faults.specs.declared.raw.Error.TheVariants.{NotUtf8}
@@ -23,7 +23,7 @@ use Rattle.bson_laws.specs.Leaves.{LeafKind, anything, ignored, booleans, number
 use Rattle.bson_laws.specs.Owned.{IsTextOwned, IsLeafOwned, IsOwned, AreFieldsOwned, ArePartsOwned, AreVariantsOwned, IsContentOwned}
 use Rattle.bson_laws.specs.Variants.{content_of}
 use Rattle.bson_laws.specs.Judged.{Reading, refused, with_level, faultless, judged, at_its_key, at_its_index, scope_key, passes, pass_scope, pass_nodes, ignores}
-use Rattle.bson_laws.specs.ReadsRaw.{slice_of, raw_document_of, raw_array_of, scoped_code, raw_extended, raw_value_of}
+use Rattle.bson_laws.specs.ReadsRaw.{slice_of, raw_document_of, raw_array_of, scoped_code, decimal_struct, raw_extended, raw_value_of}
 use Rattle.bson_laws.specs.Taken.{owned_under_mark, boolean_of, integer_of, double_of, character_of, text_of, bytes_of, null_of, buffer_of, reads_bytes, as_byte, borrow, borrow_or_own, as_text, document_of, array_of, read_integer, read_character}
 use Rattle.bson_laws.specs.ReadsLeaf.{borrows, put_entry, read_any, any_items, any_entries, no_extended, read_leaf_with}
 use Rattle.bson_laws.specs.Containers.{reads_items, reads_entries, unit_of, reads_unit, reads_key, reads_next, read_enum, reads_option}
@@ -344,6 +344,7 @@ module _ (a b : Change) (is_bare : Bool) (f : Follows a b is_bare) where
         ap (λ q. result_map (scoped_code (b.text t)) (under scope_key (q >>= raw_document_of))) j.1 ∙ ap (λ q. result_map (scoped_code (b.text t)) (under scope_key q)) (raw_document_after s r.0 j.2),
         ap (λ x. contents (scoped_code (made x) r.0)) (text_same t both.0) ∙ ap contents r.2,
       )
+  raw_extended_after (decimal128 y) m w e = (decimal_struct (piece (b.borrows_bytes y) y.bytes), refl, ap contents (ok_is (decimal_struct (piece (a.borrows_bytes y) y.bytes)) m e))
   raw_extended_after x m w e = (m, e, refl)
 
   raw_value_after : (n : Node) (m : Marked) → IsWhole n → raw_value_of (before n) ≡ Ok m → ReadAs contents (raw_value_of (after n)) (contents m)

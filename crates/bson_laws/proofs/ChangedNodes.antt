@@ -5,7 +5,7 @@ use Rattle.std.specs.Prelude.{if◌then◌else◌}
 use Rattle.std.specs.Str.Lossy.{utf8_lossy}
 use Rattle.bson_base.specs.Tree as tree
 use Rattle.bson_base.specs.Tree.{Tree, Pairs, no_pairs, pair, Trees, no_trees}
-use Rattle.bson_rawdoc.specs.Node.{Whole, of_opening, Sight, Node, string, document, array, bytes, extended, Extended, binary, undefined, object_id, regular_expression, db_pointer, javascript_code, symbol, javascript_code_with_scope, opened, opens, Nodes, ended, faulty, then_node, piece, mended, mended_text, mended_value, mended_nodes, tree_node, pair_nodes, tree_nodes}
+use Rattle.bson_rawdoc.specs.Node.{Whole, of_opening, Sight, Node, string, document, array, bytes, extended, Extended, binary, undefined, object_id, regular_expression, db_pointer, javascript_code, symbol, javascript_code_with_scope, decimal128, opened, opens, Nodes, ended, faulty, then_node, piece, mended, mended_text, mended_value, mended_nodes, tree_node, pair_nodes, tree_nodes}
 use Rattle.bson_kinds.specs.Piece.{Piece, made}
 use Rattle.bson_laws.specs.RawFree.{IsRawFree, ArePairsRawFree, AreTreesRawFree}
 use Rattle.bson_laws.proofs.MendedTexts.{mended_whole, whole_mended}
@@ -33,6 +33,7 @@ abbrev mutual
   pub changed_value : Change → Extended → Extended
   changed_value c (binary subtype b) = binary subtype (piece (c.borrows_bytes b) b.bytes)
   changed_value c (object_id id) = object_id (piece (c.borrows_bytes id) id.bytes)
+  changed_value c (decimal128 b) = decimal128 (piece (c.borrows_bytes b) b.bytes)
   changed_value c (regular_expression p q) = regular_expression (c.text p) (c.text q)
   changed_value c (db_pointer n id) = db_pointer (c.text n) id
   changed_value c (javascript_code t) = javascript_code (c.text t)

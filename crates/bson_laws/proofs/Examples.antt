@@ -18,7 +18,7 @@ use Rattle.bson_values.specs.Value.{i32, u8, no_entries, entry, no_field_values,
 use Rattle.bson_values.specs.Cause as causes
 use Rattle.bson_values.specs.Cause.{raw, invalid_type, not_borrowed, invalid_length, missing_field, duplicate_field, unknown_field, unit_in_document}
 use Rattle.bson_values.specs.Refusal.{at_key, end_of_stream, here, unreadable, unwritable, invalid_document_key}
-use Rattle.bson_laws.specs.ReadsRaw.{scoped_code}
+use Rattle.bson_laws.specs.ReadsRaw.{scoped_code, decimal_struct}
 use Rattle.bson_laws.specs.Reads.{reads}
 use Rattle.bson_laws.specs.Spell.{spell_binary, spell_as, spell, spell_key, spell_document}
 
@@ -53,8 +53,15 @@ scope_unread t h = rw h refl
 -- ---- what is borrowed
 
 -- the bytes of an opened decimal cannot be borrowed, whether they are a text or not
-decimal_at_str : (b : Bytes) → reads (structure dropped (codes "T") (field (codes "$numberDecimalBytes") (leaf Str) no_fields)) (opens (decimal128 b)) ≡ Err (record { path = at_key (codes "$numberDecimalBytes") ∷ []; fault = unreadable not_borrowed })
+decimal_at_str : (b : Bytes) → reads (structure dropped (codes "T") (field (codes "$numberDecimalBytes") (leaf Str) no_fields)) (opens (decimal128 (borrowed b))) ≡ Err (record { path = at_key (codes "$numberDecimalBytes") ∷ []; fault = unreadable not_borrowed })
 decimal_at_str b = refl
+
+-- those of a decimal at `rawbson` are borrowed, where texts are mended too
+decimal_borrowed : (b : Bytes) → reads (leaf RawBson) (opens (decimal128 (borrowed b))) ≡ Ok (decimal_struct (borrowed b))
+decimal_borrowed b = refl
+
+decimal_mended : (b : Bytes) → reads (leaf RawBson) (mended (opens (decimal128 (borrowed b)))) ≡ Ok (decimal_struct (borrowed b))
+decimal_mended b = refl
 
 -- where texts are mended, a binary without a shape is owned
 binary_mended : (b : Bytes) → reads (leaf Any) (mended (bytes false (borrowed b))) ≡ Ok (value.bytes (made b))

@@ -367,7 +367,7 @@ module _ (sight : Sight) where
         let r = bind_ok (reads_tree n) pairs_in m.0 (under_ok scope_key (reads_tree n >>= pairs_in) m.0 m.1) in
         subst IsGivenTree m.2 (unfaulted p b.0, pairs_of_given r.0 m.0 (value_given n (λ m u j q. tree_given n m u k.0 j q) r.0 r.1) r.2)
     extended_value_given (node.timestamp time increment) t k f e = subst IsGivenTree (ok_is (tree.timestamp time increment) t e) k
-    extended_value_given (node.decimal128 b) t k f e = subst IsGivenTree (ok_is (tree.decimal128 b) t e) k.0
+    extended_value_given (node.decimal128 b) t k f e = subst IsGivenTree (ok_is (tree.decimal128 b.bytes) t e) k.0
     extended_value_given node.max_key t k f e = subst IsGivenTree (ok_is tree.max_key t e) tt
     extended_value_given node.min_key t k f e = subst IsGivenTree (ok_is tree.min_key t e) tt
 

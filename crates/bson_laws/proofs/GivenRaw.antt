@@ -143,7 +143,7 @@ extended_given at (node.javascript_code_with_scope p n) v t f e =
     let scope = document_framed at n r.0 t.0 (after_judged n raw_document_of r.0 (under_ok scope_key (judged n >>= raw_document_of) r.0 r.1)) in
     kept (a_code p.bytes r.0.bytes) (scoped_code p r.0) v (unfaulted p b.0, scope) refl r.2
 extended_given at (node.timestamp time increment) v t f e = kept (a_tree (tree.timestamp time increment)) _ v t refl (ok_is _ v e)
-extended_given at (node.decimal128 b) v t f e = kept (a_tree (tree.decimal128 b)) _ v t.0 refl (ok_is _ v e)
+extended_given at (node.decimal128 b) v t f e = kept (a_tree (tree.decimal128 b.bytes)) _ v t.0 refl (ok_is _ v e)
 extended_given at node.max_key v t f e = kept (a_tree tree.max_key) _ v tt refl (ok_is _ v e)
 extended_given at node.min_key v t f e = kept (a_tree tree.min_key) _ v tt refl (ok_is _ v e)
 

@@ -109,7 +109,7 @@ kind_marked container each kinds.JavaScriptCodeWithScope b =
 kind_marked container each kinds.Int32 b = refl
 kind_marked container each kinds.Timestamp b = refl
 kind_marked container each kinds.Int64 b = refl
-kind_marked container each kinds.Decimal128 b = refl
+kind_marked container each kinds.Decimal128 b = opens_marked (node.decimal128 (borrowed b)) refl
 kind_marked container each kinds.MaxKey b = refl
 kind_marked container each kinds.MinKey b = refl
 

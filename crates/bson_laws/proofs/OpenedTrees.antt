@@ -40,7 +40,7 @@ binary_opened at subtype b (suc zero) d = absurd (omega arith)
 binary_opened at subtype b (suc (suc m)) d = record { value = node.binary (suc subtype) (made b); left = 0; met = refl; deep = omega arith; document = refl }
 
 -- under a mark too, since a decimal's bytes are taken as bytes
-decimal_opened : (at : Sight) (b : Bytes) (m : ℕ) → read_tree (tree_node (bare_sight at) (tree.document (opened (tree.decimal128 b))) (suc m)) ≡ read_tree (node.made_document (node.opened (decimal128 b)))
+decimal_opened : (at : Sight) (b : Bytes) (m : ℕ) → read_tree (tree_node (bare_sight at) (tree.document (opened (tree.decimal128 b))) (suc m)) ≡ read_tree (node.made_document (node.opened (decimal128 (made b))))
 unfolding of_key
 decimal_opened at b m = refl
 
@@ -53,7 +53,7 @@ is_opened at (tree.binary (suc k) b) levels e d =
 is_opened at (tree.object_id id) (suc m) e d = record { value = object_id (made id); left = 0; met = refl; deep = omega arith; document = refl }
 is_opened at (tree.javascript_code c) (suc m) e d = record { value = javascript_code (made c); left = 0; met = refl; deep = omega arith; document = refl }
 is_opened at (tree.symbol s) (suc m) e d = record { value = symbol (made s); left = 0; met = refl; deep = omega arith; document = refl }
-is_opened at (tree.decimal128 b) (suc m) e d = record { value = decimal128 b; left = 0; met = refl; deep = omega arith; document = decimal_opened at b m }
+is_opened at (tree.decimal128 b) (suc m) e d = record { value = decimal128 (made b); left = 0; met = refl; deep = omega arith; document = decimal_opened at b m }
 is_opened at tree.undefined (suc m) e d = record { value = node.undefined; left = 0; met = refl; deep = omega arith; document = refl }
 is_opened at tree.max_key (suc m) e d = record { value = node.max_key; left = 0; met = refl; deep = omega arith; document = refl }
 is_opened at tree.min_key (suc m) e d = record { value = node.min_key; left = 0; met = refl; deep = omega arith; document = refl }

@@ -22,7 +22,7 @@ use Rattle.bson_values.specs.Value as value
 use Rattle.bson_values.specs.Value.{i32, i64, u8, Value}
 use Rattle.bson_laws.specs.Datum.{datum, itself, one, two, nameless, wrapped}
 use Rattle.bson_laws.specs.Judged.{Reading, faultless, judged}
-use Rattle.bson_laws.specs.ReadsRaw.{raw_document_of, raw_array_of, scoped_code, raw_value_of}
+use Rattle.bson_laws.specs.ReadsRaw.{raw_document_of, raw_array_of, scoped_code, decimal_struct, raw_value_of}
 use Rattle.bson_laws.specs.Spell.{in_bytes, spell}
 use Rattle.bson_laws.proofs.Coded.{IsCoded}
 use Rattle.bson_laws.proofs.Codec.{scoped_again}
@@ -136,7 +136,7 @@ whole_comes at (tree.symbol x) levels u w e =
 whole_comes at (tree.int32 n) levels u w e = same_comes at (tree.int32 n) levels u (value.integer i32 n) w e refl refl
 whole_comes at (tree.timestamp time increment) levels u w e = same_comes at (tree.timestamp time increment) levels u (datum made (tree.timestamp time increment)) w e refl refl
 whole_comes at (tree.int64 n) levels u w e = same_comes at (tree.int64 n) levels u (value.integer i64 n) w e refl refl
-whole_comes at (tree.decimal128 b) levels u w e = same_comes at (tree.decimal128 b) levels u (datum made (tree.decimal128 b)) w e refl refl
+whole_comes at (tree.decimal128 b) levels u w e = same_comes at (tree.decimal128 b) levels u (decimal_struct (piece at.bytes b)) w e refl refl
 whole_comes at tree.max_key levels u w e = same_comes at tree.max_key levels u (datum made tree.max_key) tt e refl refl
 whole_comes at tree.min_key levels u w e = same_comes at tree.min_key levels u (datum made tree.min_key) tt e refl refl
 whole_comes at t levels u w e = absurd w

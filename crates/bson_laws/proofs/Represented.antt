@@ -84,9 +84,9 @@ timestamp_represented time increment h k =
     (fields_read (codes "t") (leaf U32) (codes "i") (leaf U32) (int64 (pos time)) (int64 (pos increment)) refl refl refl (Ok (value.integer u32 (pos time))) (Ok (value.integer u32 (pos increment)))
     (unsigned_read time h) (unsigned_read increment k))
 
-decimal_represented : (b : Bytes) → length b ≡ 16 → read_tree (made_document (opened (decimal128 b))) ≡ Ok (tree.decimal128 b)
+decimal_represented : (b : Piece) → length b.bytes ≡ 16 → read_tree (made_document (opened (decimal128 b))) ≡ Ok (tree.decimal128 b.bytes)
 unfolding of_key
-decimal_represented b h = ap (λ n. as_body (codes "$numberDecimalBytes") wrappers.NumberDecimalBytes (Ok (cond (nat_eq n 16) (Some (tree.decimal128 b)) None))) h
+decimal_represented b h = ap (λ n. as_body (codes "$numberDecimalBytes") wrappers.NumberDecimalBytes (Ok (cond (nat_eq n 16) (Some (tree.decimal128 b.bytes)) None))) h
 
 -- ---- values with texts, which may have faults
 
@@ -216,7 +216,7 @@ clean_ranges at (tree.symbol t) levels x c e = same_ranges (symbol (piece at.tex
 clean_ranges at (tree.javascript_code_with_scope code scope) levels x c e =
     same_ranges (javascript_code_with_scope (piece at.texts code) (one_level EmbeddedDocument (whole_at at (tree.document scope)) (pair_nodes at scope) levels)) x e tt
 clean_ranges at (tree.timestamp time increment) levels x c e = same_ranges (timestamp time increment) x e c
-clean_ranges at (tree.decimal128 b) levels x c e = same_ranges (decimal128 b) x e c.count
+clean_ranges at (tree.decimal128 b) levels x c e = same_ranges (decimal128 (piece at.bytes b)) x e c.count
 clean_ranges at tree.max_key levels x c e = same_ranges max_key x e tt
 clean_ranges at tree.min_key levels x c e = same_ranges min_key x e tt
 clean_ranges at (tree.raw k b) levels x c e = absurd c

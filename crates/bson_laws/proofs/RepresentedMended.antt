@@ -3,7 +3,7 @@ use Rattle.std.proofs.Common.{◌≡◌, [], ◌∷◌, refl, ap, ◌∙◌}
 use Rattle.std.specs.Prelude.{codes}
 use Rattle.std.specs.Result.{result_ok}
 use Rattle.bson_base.specs.Made.{digits, number_text, base64_text}
-use Rattle.bson_kinds.specs.Text.{Bytes}
+use Rattle.bson_kinds.specs.Piece.{Piece}
 use Rattle.bson_base.proofs.MadeTexts.{digits_are_text, base64_is_text, number_is_text}
 use Rattle.bson_rawdoc.specs.Node.{made_document, string, Extended, binary, object_id, date_time, regular_expression, db_pointer, javascript_code, symbol, javascript_code_with_scope, decimal128, one, two, made_text, mended_text, opened, mended_value, mended_nodes}
 use Rattle.bson_values.specs.Wrapper.{of_key}
@@ -12,7 +12,7 @@ use Rattle.bson_laws.specs.Trees.{read_tree}
 use Rattle.bson_laws.proofs.MendedTexts.{whole_mended}
 use Rattle.bson_laws.proofs.Represented.{represents_itself}
 
-decimal_mended : (b : Bytes) → read_tree (made_document (mended_nodes (opened (decimal128 b)))) ≡ read_tree (made_document (opened (decimal128 b)))
+decimal_mended : (b : Piece) → read_tree (made_document (mended_nodes (opened (decimal128 b)))) ≡ read_tree (made_document (opened (decimal128 b)))
 unfolding of_key
 decimal_mended b = refl
 

@@ -51,7 +51,7 @@ abbrev mutual
   IsTameValue at (symbol t) = IsTextSeen at t
   IsTameValue at (javascript_code_with_scope code scope) = IsTame at scope × IsTextSeen at code
   IsTameValue at (timestamp time increment) = (time < 2 ^ 32) × (increment < 2 ^ 32)
-  IsTameValue at (decimal128 b) = (length b ≡ 16) × AreBytes b
+  IsTameValue at (decimal128 b) = (length b.bytes ≡ 16) × AreBytes b.bytes
   IsTameValue at x = Unit {0}
 
   pub AreTame : Sight → Nodes → Type 0

@@ -75,6 +75,6 @@ opened_alike (javascript_code c) t e extended = same_tree (javascript_code c) (t
 opened_alike (symbol s) t e extended = same_tree (symbol s) (tree.symbol s.bytes) t refl e
 opened_alike (javascript_code_with_scope code scope) t e extended = let s = some_then (with_document code.bytes) (unmarked scope) t e in scope_alike code scope s.0 t s.1 s.2
 opened_alike (timestamp time increment) t e extended = same_tree (timestamp time increment) (tree.timestamp time increment) t refl e
-opened_alike (decimal128 b) t e extended = same_tree (decimal128 b) (tree.decimal128 b) t refl e
+opened_alike (decimal128 b) t e extended = same_tree (decimal128 b) (tree.decimal128 b.bytes) t refl e
 opened_alike max_key t e extended = same_tree max_key tree.max_key t refl e
 opened_alike min_key t e extended = same_tree min_key tree.min_key t refl e

@@ -32,8 +32,12 @@ raw_array_of n = refused (invalid_type (kind_of n))
 abbrev pub scoped_code : Piece → Piece → Marked
 scoped_code code scope = value.structure (made (codes "$codeWithScope")) (two made (codes "$code") (value.str code) (codes "$scope") (value.raw_document scope))
 
--- An extended value as the struct of a reserved name. Its texts and the bytes of a binary are borrowed where they are in the input, and the options of a regular
--- expression stay as they are; a scope is a document in its bytes. The digits of ids and the bytes of a decimal are owned.
+-- the struct of a decimal of these bytes
+abbrev pub decimal_struct : Piece → Marked
+decimal_struct bits = value.structure (made (codes "$numberDecimal")) (one made (codes "$numberDecimalBytes") (value.bytes bits))
+
+-- An extended value as the struct of a reserved name. Its texts and the bytes of a binary or a decimal are borrowed where they are in the input, and the options of a
+-- regular expression stay as they are; a scope is a document in its bytes. The digits of ids are owned.
 abbrev pub raw_extended : Extended → Reading Marked
 raw_extended (binary subtype b) = Ok (wrapped made (codes "$binary") (nameless made (two made (codes "bytes") (value.bytes b) (codes "subType") (value.integer u8 (pos subtype)))))
 raw_extended (regular_expression pattern options) = Ok (wrapped made (codes "$regularExpression") (nameless made (two made (codes "pattern") (value.str pattern) (codes "options") (value.str options))))
@@ -46,7 +50,7 @@ raw_extended undefined = Ok (datum made tree.undefined)
 raw_extended (object_id id) = Ok (datum made (tree.object_id id.bytes))
 raw_extended (date_time n) = Ok (datum made (tree.date_time n))
 raw_extended (timestamp time increment) = Ok (datum made (tree.timestamp time increment))
-raw_extended (decimal128 b) = Ok (datum made (tree.decimal128 b))
+raw_extended (decimal128 b) = Ok (decimal_struct b)
 raw_extended max_key = Ok (datum made tree.max_key)
 raw_extended min_key = Ok (datum made tree.min_key)
 

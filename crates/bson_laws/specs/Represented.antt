@@ -14,7 +14,7 @@ HasRanges (object_id id) = HasBytes 12 id.bytes
 HasRanges (date_time n) = FitsSigned w64 n
 HasRanges (db_pointer namespace id) = HasBytes 12 id
 HasRanges (timestamp time increment) = (time < 2 ^ 32) × (increment < 2 ^ 32)
-HasRanges (decimal128 b) = length b ≡ 16
+HasRanges (decimal128 b) = length b.bytes ≡ 16
 HasRanges x = Unit {0}
 
 -- An opened document is read as the tree that its value is read as, and is refused exactly where its value is.

@@ -82,7 +82,7 @@ abbrev mutual
   extended_tree (javascript_code_with_scope t n) =
       result_map (tree.javascript_code_with_scope t.bytes) (under scope_key ((judged n >>= λ _. as_tree n) >>= pairs_in))
   extended_tree (timestamp time increment) = Ok (tree.timestamp time increment)
-  extended_tree (decimal128 b) = Ok (tree.decimal128 b)
+  extended_tree (decimal128 b) = Ok (tree.decimal128 b.bytes)
   extended_tree max_key = Ok tree.max_key
   extended_tree min_key = Ok tree.min_key
 

@@ -40,7 +40,7 @@ abbrev mutual
   unmarked_extended (symbol t) = Some (tree.symbol t.bytes)
   unmarked_extended (javascript_code_with_scope code scope) = option_and_then (with_document code.bytes) (unmarked scope)
   unmarked_extended (timestamp time increment) = Some (tree.timestamp time increment)
-  unmarked_extended (decimal128 b) = Some (tree.decimal128 b)
+  unmarked_extended (decimal128 b) = Some (tree.decimal128 b.bytes)
   unmarked_extended max_key = Some tree.max_key
   unmarked_extended min_key = Some tree.min_key
 

@@ -42,7 +42,7 @@ extended_view (JavaScriptCode t) = node.javascript_code (met_text t)
 extended_view (Symbol t) = node.symbol (met_text t)
 extended_view (JavaScriptCodeWithScope t s) = node.javascript_code_with_scope (met_text t) (scope_node s)
 extended_view (Timestamp t) = node.timestamp t.time t.increment
-extended_view (Decimal128 b) = node.decimal128 b.bytes.now
+extended_view (Decimal128 b) = node.decimal128 (met_bytes b)
 extended_view MaxKey = node.max_key
 extended_view MinKey = node.min_key
 

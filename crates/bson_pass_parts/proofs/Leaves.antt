@@ -30,7 +30,7 @@ tree_written t levels clean deep = ap of_writing (ap (λ d. spell d levels) (dat
 pub id_put : (id old new : Bytes) (levels : ℕ) → HasBytes 12 id → new ≡ old ++ id → IsPut (recast_node (leaf leaves.ObjectId) levels (opens (node.object_id (borrowed id)))) old new kinds.ObjectId
 id_put id old new levels clean put = subst (λ (o : Option Tree). IsPut o old new kinds.ObjectId) (sym (tree_written (tree.object_id id) levels clean (omega arith))) (refl, put)
 
-pub decimal_put : (bytes old new : Bytes) (levels : ℕ) → HasBytes 16 bytes → new ≡ old ++ bytes → IsPut (recast_node (leaf leaves.Decimal128) levels (opens (node.decimal128 bytes))) old new kinds.Decimal128
+pub decimal_put : (bytes old new : Bytes) (levels : ℕ) → HasBytes 16 bytes → new ≡ old ++ bytes → IsPut (recast_node (leaf leaves.Decimal128) levels (opens (node.decimal128 (borrowed bytes)))) old new kinds.Decimal128
 decimal_put bytes old new levels clean put = subst (λ (o : Option Tree). IsPut o old new kinds.Decimal128) (sym (tree_written (tree.decimal128 bytes) levels clean (omega arith))) (refl, put)
 
 pub timestamp_put : (time increment : ℕ) (old new : Bytes) (levels : ℕ) → time < 2 ^ 32 → increment < 2 ^ 32 → new ≡ old ++ (tree.le32 increment ++ tree.le32 time)

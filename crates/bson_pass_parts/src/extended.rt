@@ -66,7 +66,7 @@ pub(crate) fn recast_decimal(
     levels: u32,
     decimal: Decimal128,
 ) -> Option<ElementType>
-    ensures { IfSome result (IsPut (recast_node (form.leaf leaf) levels (opens (nodes.decimal128 decimal.0))) made.old.items made.new.items) }
+    ensures { IfSome result (IsPut (recast_node (form.leaf leaf) levels (opens (nodes.decimal128 (borrowed decimal.0)))) made.old.items made.new.items) }
 {
     match leaf {
         Leaf::Decimal128 => {

@@ -10,10 +10,10 @@ use std::fmt::Debug;
 
 /// The shape of a value of each form that holds others or has memory of its own.
 const SHAPE: &str =
-    "S{o:?string,n:N=str,m:[str:bytes],q:[bytebuf],t:(bool,str),p:P(str),e:[<A,B=str,C(str),D{f:str}>],u:U!,d:rawdoc,r:rawarray}";
+    "S{o:?string,n:N=str,m:[str:bytes],q:[bytebuf],t:(bool,str),p:P(str),e:[<A,B=str,C(str),D{f:str}>],u:U!,d:rawdoc,r:rawarray,v:rawbson}";
 
 /// A document with such a value.
-const FORMS: &[u8] = b"\xc6\0\0\0\
+const FORMS: &[u8] = b"\xd9\0\0\0\
     \x02o\0\x02\0\0\0a\0\
     \x02n\0\x02\0\0\0b\0\
     \x03m\0\x0e\0\0\0\x05k\0\x01\0\0\0\0\x01\0\
@@ -24,6 +24,7 @@ const FORMS: &[u8] = b"\xc6\0\0\0\
     \x0au\0\
     \x03d\0\x05\0\0\0\0\
     \x04r\0\x05\0\0\0\0\
+    \x13v\0\x01\x02\x03\x04\x05\x06\x07\x08\x09\x0a\x0b\x0c\x0d\x0e\x0f\x10\
     \0";
 
 /// An owned copy of a datum.

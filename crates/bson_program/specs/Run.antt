@@ -33,10 +33,12 @@ pub record AreKept (out err : SinkChange) : Type 0 where
   pub out_kept : Keeps out.before out.after
   pub err_kept : Keeps err.before err.after
 
--- All of it was written, and nothing else.
+-- All of it was written, and nothing else; no call on a sink failed.
 pub record AreWritten (bytes lines : Bytes) (out err : SinkChange) : Type 0 where
   pub out_grew : Appends out.before out.after bytes
   pub err_grew : Appends err.before err.after lines
+  pub out_quiet : out.faults_after ≡ out.faults_before
+  pub err_quiet : err.faults_after ≡ err.faults_before
 
 -- A sink's count rose or is at its last value; each sink grew by a first part of what had to be written; and at least one of the two had not told of room for all
 -- that was to go to it.

@@ -1,5 +1,5 @@
 // What a run writes to its two sinks.
-ghost use Rattle.std.specs.Prelude.{◌≤◌, ◌⊎◌, IsOk, OnOk, OnErr};
+ghost use Rattle.std.specs.Prelude.{◌≡◌, ◌≤◌, ◌⊎◌, IsOk, OnOk, OnErr};
 ghost use Rattle.std.specs.Io.KnownBytes.{Appends, Keeps};
 ghost use Rattle.bson_io.specs.Ends.{RoseOrLast, AppendsPrefix, FitsIn};
 ghost use Rattle.bson_program.specs.Ends.{sink_change};
@@ -47,6 +47,8 @@ fn deliver<O: Sink, E: Sink>(
     ensures out_later { O.faults out.old ≤ O.faults out.new }
     ensures err_later { E.faults err.old ≤ E.faults err.new }
     ensures room { FitsIn (O.room out.old) bytes.now → FitsIn (E.room err.old) text.now → IsOk result }
+    ensures out_quiet { OnOk result (O.faults out.new ≡ O.faults out.old) }
+    ensures err_quiet { OnOk result (E.faults err.new ≡ E.faults err.old) }
     ensures cause { OnErr result (RoseOrLast (O.faults out.old) (O.faults out.new) ⊎ RoseOrLast (E.faults err.old) (E.faults err.new)) }
 {
     write_due(out, bytes)?;

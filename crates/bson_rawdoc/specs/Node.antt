@@ -68,7 +68,7 @@ mutual
     symbol : Piece → Extended
     javascript_code_with_scope : (code : Piece) → (scope : Node) → Extended
     timestamp : (time : ℕ) → (increment : ℕ) → Extended
-    decimal128 : Bytes → Extended
+    decimal128 : Piece → Extended
     max_key : Extended
     min_key : Extended
 
@@ -158,7 +158,7 @@ opened (javascript_code t) = one (codes "$code") (string t)
 opened (javascript_code_with_scope code scope) = two (codes "$code") (string code) (codes "$scope") scope
 opened (symbol t) = one (codes "$symbol") (string t)
 opened (db_pointer namespace id) = one (codes "$dbPointer") (made_document (two (codes "$ref") (string namespace) (codes "$id") (made_document (one (codes "$oid") (made_text (digits id))))))
-opened (decimal128 b) = one (codes "$numberDecimalBytes") (bytes false (made b))
+opened (decimal128 b) = one (codes "$numberDecimalBytes") (bytes false (made b.bytes))
 opened undefined = one (codes "$undefined") (boolean true)
 opened max_key = one (codes "$maxKey") (int32 (pos 1))
 opened min_key = one (codes "$minKey") (int32 (pos 1))
@@ -251,7 +251,7 @@ node_with container kinds.JavaScriptCodeWithScope b =
 node_with container kinds.Int32 b = int32 (int32_in b)
 node_with container kinds.Timestamp b = opens (timestamp (uint32_in (drop 4 b)) (uint32_in b))
 node_with container kinds.Int64 b = int64 (int64_in b)
-node_with container kinds.Decimal128 b = opens (decimal128 b)
+node_with container kinds.Decimal128 b = opens (decimal128 (borrowed b))
 node_with container kinds.MaxKey b = opens max_key
 node_with container kinds.MinKey b = opens min_key
 
@@ -302,7 +302,7 @@ value_node inner (raw.javascript_code_with_scope code scope) = opens (javascript
 value_node inner (raw.int32 n) = int32 n
 value_node inner (raw.timestamp time increment) = opens (timestamp time increment)
 value_node inner (raw.int64 n) = int64 n
-value_node inner (raw.decimal128 b) = opens (decimal128 b)
+value_node inner (raw.decimal128 b) = opens (decimal128 (borrowed b))
 value_node inner raw.max_key = opens max_key
 value_node inner raw.min_key = opens min_key
 
@@ -366,7 +366,7 @@ abbrev mutual
   tree_node at (trees.int32 n) levels = int32 n
   tree_node at (trees.timestamp time increment) levels = opens (timestamp time increment)
   tree_node at (trees.int64 n) levels = int64 n
-  tree_node at (trees.decimal128 b) levels = opens (decimal128 b)
+  tree_node at (trees.decimal128 b) levels = opens (decimal128 (piece at.bytes b))
   tree_node at trees.max_key levels = opens max_key
   tree_node at trees.min_key levels = opens min_key
   tree_node at (trees.raw k b) levels = mended_if at.under_mark (node_in levels k b)

@@ -1,4 +1,4 @@
-ghost use Rattle.std.specs.Prelude.{◌≡◌, ◌≤◌, ◌-◌, ◌++◌, IfErr, IfOk, IfSome, length};
+ghost use Rattle.std.specs.Prelude.{◌≡◌, ◌≤◌, ◌-◌, ◌++◌, IfErr, IfOk, IfSome, OnOk, length};
 ghost use Rattle.bson_kinds.specs.Text.{Bytes};
 ghost use Rattle.bson_values.specs.Cause.{too_small};
 ghost use Rattle.bson_io.specs.Ends.{Rose};
@@ -26,6 +26,8 @@ use std::alloc::Global;
 pub fn take_document<S: Source>(alloc: Global, source: &mut S) -> de::Result<Vec<u8>>
     ensures document { ReadsOne (λ v. v.items) first_document (S.left source.old) (S.left source.new) (S.faults source.old) (S.faults source.new) result }
     ensures later { S.faults source.old ≤ S.faults source.new }
+    // No call on the source failed, where there are bytes.
+    ensures kept { OnOk result (S.faults source.new ≡ S.faults source.old) }
 {
     let bytes = take(Vec::new(alloc), 4, source)?;
     if bytes.len() < 4 {
@@ -45,6 +47,7 @@ fn take<S: Source>(bytes: Vec<u8>, most: usize, source: &mut S) -> de::Result<Ve
     ensures some { (more : Bytes) × TakesSome (most - length bytes.items) (S.left source.old) (S.left source.new) more }
     ensures failed { IfErr result (λ e. IsTakeError (Rose (S.faults source.old) (S.faults source.new)) (read_failure e)) }
     ensures later { S.faults source.old ≤ S.faults source.new }
+    ensures kept { OnOk result (S.faults source.new ≡ S.faults source.old) }
 {
     let mut bytes = bytes;
     match take_up_to(&mut bytes, most, source) {

@@ -111,7 +111,7 @@ extended_not_raw (node.symbol p) t e = ok_not_raw (tree.symbol p.bytes) t refl e
 extended_not_raw (node.javascript_code_with_scope p n) t e =
     let m = map_ok (tree.javascript_code_with_scope p.bytes) (under scope_key ((judged n >>= λ _. as_tree n) >>= pairs_in)) t e in ap is_raw (sym m.2)
 extended_not_raw (node.timestamp time increment) t e = ok_not_raw (tree.timestamp time increment) t refl e
-extended_not_raw (node.decimal128 b) t e = ok_not_raw (tree.decimal128 b) t refl e
+extended_not_raw (node.decimal128 b) t e = ok_not_raw (tree.decimal128 b.bytes) t refl e
 extended_not_raw node.max_key t e = ok_not_raw tree.max_key t refl e
 extended_not_raw node.min_key t e = ok_not_raw tree.min_key t refl e
 

@@ -138,7 +138,7 @@ fn raw_scalar<'de>(alloc: Global, value: Extended<'de>) -> Result<Datum<'de>, Al
         Extended::ObjectId(id) => data::object_id(alloc, id.bytes),
         Extended::DateTime(time) => data::date_time(alloc, time),
         Extended::Timestamp(time) => data::timestamp(alloc, time),
-        Extended::Decimal128(bits) => data::decimal128(alloc, bits.bytes.to_vec(alloc)?),
+        Extended::Decimal128(bits) => decimal(alloc, bits),
         Extended::MaxKey => data::max_key(alloc),
         Extended::MinKey => data::min_key(alloc),
     }
@@ -184,4 +184,12 @@ fn db_pointer<'de>(
     let id = data::struct_of_one(alloc, "", "$oid", digits)?;
     let body = data::struct_of_two(alloc, "", ("$ref", Datum::Str(namespace)), ("$id", id))?;
     data::wrap(alloc, "$dbPointer", body)
+}
+
+/// A Decimal128.
+fn decimal<'de>(alloc: Global, bits: MetBytes<'de>) -> Result<Datum<'de>, AllocError>
+    ensures { IfOk result (λ d. laws.raw_extended (node.decimal128 (met_bytes bits.entry)) ≡ Ok (marked d)) }
+{
+    let bits = Datum::Bytes(bits.borrow_or_copy(alloc)?);
+    data::struct_of_one(alloc, "$numberDecimal", "$numberDecimalBytes", bits)
 }

@@ -1,4 +1,4 @@
-ghost use Rattle.std.specs.Prelude.{◌≤◌};
+ghost use Rattle.std.specs.Prelude.{◌≡◌, ◌≤◌, OnOk};
 ghost use Rattle.bson_laws.specs.Reads.{reads_document};
 ghost use Rattle.bson_de_raw.specs.ReadsLossy.{reads_lossy};
 ghost use Rattle.bson_types.specs.FromSource.{ReadsTyped};
@@ -24,6 +24,8 @@ pub fn from_reader<'x, S: Source, T: Deserialize<'x>>(
 ) -> de::Result<T>
     ensures value { ReadsTyped T.contents T.form T.taken reads_document (S.left source.old) (S.left source.new) (S.faults source.old) (S.faults source.new) result }
     ensures later { S.faults source.old ≤ S.faults source.new }
+    // No call on the source failed, where there is a value.
+    ensures kept { OnOk result (S.faults source.new ≡ S.faults source.old) }
 {
     let shape = shape_of::<T>(alloc)?;
     let datum = from_reader_at(alloc, &shape, source)?;
@@ -42,6 +44,8 @@ pub fn from_reader_utf8_lossy<'x, S: Source, T: Deserialize<'x>>(
 ) -> de::Result<T>
     ensures value { ReadsTyped T.contents T.form T.taken reads_lossy (S.left source.old) (S.left source.new) (S.faults source.old) (S.faults source.new) result }
     ensures later { S.faults source.old ≤ S.faults source.new }
+    // No call on the source failed, where there is a value.
+    ensures kept { OnOk result (S.faults source.new ≡ S.faults source.old) }
 {
     let shape = shape_of::<T>(alloc)?;
     let datum = from_reader_utf8_lossy_at(alloc, &shape, source)?;

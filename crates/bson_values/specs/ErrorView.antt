@@ -1,6 +1,8 @@
 -- What contracts see of an error. Source: the errors of MongoDB's crate bson, version 2.
 use Rattle.std.specs.Prelude.{pos, string_bytes}
 use Rattle.bson_base.specs.BsonView.{tree_of}
+use Rattle.bson_faults.specs.declared.raw.Error as raw
+use Rattle.bson_faults.specs.declared.raw.Error.TheVariants.{NoMemory}
 use Rattle.bson_values.specs.Cause as cause
 use Rattle.bson_values.specs.Refusal.{ReadFault, io, invalid_utf8_string, unrecognized_element_type, end_of_stream, unreadable, WriteFault, sink_failed, unwritable, invalid_document_key, invalid_cstring, unsigned_exceeds, Failure, no_memory, bare, placed}
 use Rattle.bson_values.specs.PathView.{path_view}
@@ -72,6 +74,11 @@ read_failure de.EndOfStream = bare end_of_stream
 read_failure (de.DeserializationError c) = bare (unreadable (cause_view c))
 read_failure (de.WithPath' path p source) = placed (path_view path) (read_failure source)
 read_failure de.NoMemory = no_memory
+
+-- The failure that a reader answers with for a fault of the bytes: out of memory where that is the fault, else a refusal without a path.
+abbrev pub raw_failure : raw.Error → Failure ReadFault
+raw_failure NoMemory = no_memory
+raw_failure fault = bare (unreadable (cause.raw fault))
 
 -- the failure that a writer's error is
 abbrev pub write_failure : ser.Error → Failure WriteFault

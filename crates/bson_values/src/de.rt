@@ -85,15 +85,16 @@ impl Error {
 
 impl From<raw::Error> for Error {
     ghost use Rattle.std.specs.Prelude.{◌≡◌};
-    ghost use Rattle.bson_values.specs.Cause as cause;
-    ghost use Rattle.bson_values.specs.Refusal.{bare, unreadable};
-    ghost use Rattle.bson_values.specs.ErrorView.{read_failure};
+    ghost use Rattle.bson_values.specs.ErrorView.{raw_failure, read_failure};
 
-    ghost from_gives = { λ fault e. read_failure e ≡ bare (unreadable (cause.raw fault)) };
+    ghost from_gives = { λ fault e. read_failure e ≡ raw_failure fault };
 
     fn from(fault: raw::Error) -> Error {
-        Error::DeserializationError {
-            cause: Cause::Raw(fault),
+        match fault {
+            raw::Error::NoMemory => Error::NoMemory,
+            other => Error::DeserializationError {
+                cause: Cause::Raw(other),
+            },
         }
     }
 }

@@ -105,7 +105,7 @@ module _ (levels : ℕ) (documents : (b : Bytes) → DocumentMade levels b) (arr
   value_made (raw.int32 n) t u e d f o = leaf levels (node.int32 n) (tree.int32 n) u e refl
   value_made (raw.timestamp x y) t u e d f o = leaf levels (opens (node.timestamp x y)) (tree.timestamp x y) u e ((refl, refl), (refl, λ c. never c, tt), refl)
   value_made (raw.int64 n) t u e d f o = leaf levels (node.int64 n) (tree.int64 n) u e refl
-  value_made (raw.decimal128 b) t u e d f o = leaf levels (opens (node.decimal128 b)) (tree.decimal128 b) u e (refl, (refl, λ c. never c, tt), refl)
+  value_made (raw.decimal128 b) t u e d f o = leaf levels (opens (node.decimal128 (borrowed b))) (tree.decimal128 b) u e (refl, (refl, λ c. never c, tt), refl)
   value_made raw.max_key t u e d f o = leaf levels (opens node.max_key) tree.max_key u e (tt, (refl, λ c. never c, tt), refl)
   value_made raw.min_key t u e d f o = leaf levels (opens node.min_key) tree.min_key u e (tt, (refl, λ c. never c, tt), refl)
 

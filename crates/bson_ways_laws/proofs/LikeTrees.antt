@@ -62,7 +62,7 @@ mutual
       (both_bind Equal Equal r s pairs_in pairs_in (both_then Equal n m (as_tree n) (as_tree m) (as_tree_like n m h.1)) (λ a b g. both_equal (pairs_in a) (pairs_in b) (ap pairs_in g))))
       (λ a b g j. tree.javascript_code_with_scope (h.0.0 j) (g j))
   extended_tree_like (timestamp t i) (timestamp u k) h = both_ok Equal (tree.timestamp t i) (tree.timestamp u k) (λ j. tree.timestamp (h.0 j) (h.1 j))
-  extended_tree_like (decimal128 a) (decimal128 b) h = both_ok Equal (tree.decimal128 a) (tree.decimal128 b) (ap tree.decimal128 h)
+  extended_tree_like (decimal128 p) (decimal128 q) h = both_ok Equal (tree.decimal128 p.bytes) (tree.decimal128 q.bytes) (ap tree.decimal128 h)
   extended_tree_like max_key max_key h = both_ok Equal tree.max_key tree.max_key refl
   extended_tree_like min_key min_key h = both_ok Equal tree.min_key tree.min_key refl
   extended_tree_like x y h = absurd h

@@ -56,7 +56,7 @@ abbrev mutual
   ExtendedLike (symbol p) (symbol q) = SameText p q
   ExtendedLike (javascript_code_with_scope p n) (javascript_code_with_scope q m) = SameText p q × Like n m
   ExtendedLike (timestamp t i) (timestamp u j) = (t ≡ u) × (i ≡ j)
-  ExtendedLike (decimal128 a) (decimal128 b) = a ≡ b
+  ExtendedLike (decimal128 p) (decimal128 q) = SameBytes p q
   ExtendedLike max_key max_key = Unit {0}
   ExtendedLike min_key min_key = Unit {0}
   ExtendedLike x y = ⊥
@@ -91,7 +91,7 @@ opened_like (javascript_code p) (javascript_code q) h = (refl, λ c. never c, tt
 opened_like (symbol p) (symbol q) h = (refl, λ c. never c, tt)
 opened_like (javascript_code_with_scope p n) (javascript_code_with_scope q m) h = (refl, λ c. never c, (refl, λ c. never c, tt))
 opened_like (timestamp t i) (timestamp u j) h = (refl, λ c. never c, tt)
-opened_like (decimal128 a) (decimal128 b) h = (refl, λ c. never c, tt)
+opened_like (decimal128 p) (decimal128 q) h = (refl, λ c. never c, tt)
 opened_like max_key max_key h = (refl, λ c. never c, tt)
 opened_like min_key min_key h = (refl, λ c. never c, tt)
 opened_like x y h = absurd h
@@ -134,7 +134,7 @@ mutual
   mended_value_like (symbol p) (symbol q) h = text_mended p q h
   mended_value_like (javascript_code_with_scope p n) (javascript_code_with_scope q m) h = (text_mended p q h.0, mended_like n m h.1)
   mended_value_like (timestamp t i) (timestamp u j) h = h
-  mended_value_like (decimal128 a) (decimal128 b) h = h
+  mended_value_like (decimal128 p) (decimal128 q) h = h
   mended_value_like max_key max_key h = h
   mended_value_like min_key min_key h = h
   mended_value_like x y h = absurd h

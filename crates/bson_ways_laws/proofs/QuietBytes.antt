@@ -135,7 +135,7 @@ module _ (levels : ℕ) (documents : (b : Bytes) → DocumentQuiet levels b) (ar
   value_quiet (raw.int32 n) u e o a = leaf levels (node.int32 n) (tree.int32 n) u e (tt, tt)
   value_quiet (raw.timestamp x y) u e o a = leaf levels (opens (node.timestamp x y)) (tree.timestamp x y) u e ((refl, tt, ((tt, (tt, tt)), tt)), (refl, tt, ((tt, (tt, tt)), tt)))
   value_quiet (raw.int64 n) u e o a = leaf levels (node.int64 n) (tree.int64 n) u e (tt, tt)
-  value_quiet (raw.decimal128 b) u e o a = leaf levels (opens (node.decimal128 b)) (tree.decimal128 b) u e ((refl, tt, (tt, tt)), (refl, tt, (tt, tt)))
+  value_quiet (raw.decimal128 b) u e o a = leaf levels (opens (node.decimal128 (borrowed b))) (tree.decimal128 b) u e ((refl, tt, (tt, tt)), (refl, tt, (tt, tt)))
   value_quiet raw.max_key u e o a = leaf levels (opens node.max_key) tree.max_key u e ((refl, tt, (tt, tt)), (refl, tt, (tt, tt)))
   value_quiet raw.min_key u e o a = leaf levels (opens node.min_key) tree.min_key u e ((refl, tt, (tt, tt)), (refl, tt, (tt, tt)))
 
