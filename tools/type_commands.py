@@ -8,8 +8,8 @@
 Run at the top of the repository. It types each block of kind `console`, and in a man page each literal block: a line that begins with `$ ` is a command, `> `
 goes on with it, and what follows is its output, standard error included. Blocks of kind `sh` are not typed: they prove for an hour or ask for files that are
 not here. The commands run in a copy of the repository in a temporary folder, those of a page in one shell, each block from the top. The programs are those of
---programs, or else of crates/bson_recast/out and crates/bson_migrate/out, and then of the PATH, proved or not. From the first command whose program is not there
-the rest of the page is left out, except for blocks with `rt`, which build what they run.
+--programs, or else of the folders out/ of their crates, and then of the PATH, proved or not. From the first command whose program is not there the rest of the
+page is left out, except for blocks with `rt`, which build what they run.
 
 It ends with status 1 where a command prints something else.
 """
@@ -25,7 +25,8 @@ import sys
 import tempfile
 
 MARK = "=== the end of a command ==="
-NEEDED = ("bson_recast", "bson_migrate", "bson_infer", "bson_evolve", "rt")
+PROGRAMS = ("bson_recast", "bson_migrate", "bson_infer", "bson_evolve")
+NEEDED = (*PROGRAMS, "rt")
 PROMPT, MORE = "$ ", "> "
 
 
@@ -112,7 +113,7 @@ def main():
     parser.add_argument("--programs", help="the folder of bson_recast, bson_migrate, bson_infer and bson_evolve")
     options = parser.parse_args()
     sys.stdout.reconfigure(line_buffering=True)
-    own = [options.programs] if options.programs else ["crates/bson_recast/out", "crates/bson_migrate/out"]
+    own = [options.programs] if options.programs else [f"crates/{name}/out" for name in PROGRAMS]
     path = os.pathsep.join([*map(os.path.abspath, own), os.environ.get("PATH", "")])
     wrong = 0
     with tempfile.TemporaryDirectory() as parent:
