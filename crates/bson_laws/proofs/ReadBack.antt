@@ -50,8 +50,8 @@ use Rattle.bson_laws.proofs.Codec.{seen_again}
 use Rattle.bson_laws.proofs.Filled.{Distinct, ArePassed, seen_of, seen_at, seen_fields, fields_seen}
 use Rattle.bson_laws.proofs.Ignored.{ignores_again}
 use Rattle.bson_laws.proofs.Judged.{ReadAs, by_null, judged_again, document_again, array_again}
-use Rattle.bson_laws.proofs.Borrowed.{LeafBorrowed, IsBorrowed, borrowed_from_input, borrowed_text}
-use Rattle.bson_laws.proofs.Suited.{LeafSuits, Suits, FieldsSuit, PartsSuit, VariantsSuit, ContentSuits, HasParts, marked_at, suits_borrowed, borrowed_suits, tree_suits}
+use Rattle.bson_laws.proofs.Borrowed.{LeafBorrowed, LeafSuits, Suits, FieldsSuit, PartsSuit, VariantsSuit, ContentSuits, HasParts, marked_at, borrowed_from_input, borrowed_text}
+use Rattle.bson_laws.proofs.Suited.{suits_borrowed, tree_suits}
 use Rattle.bson_laws.proofs.Mended.{tree_mended}
 use Rattle.bson_laws.proofs.Settled.{settled_same, plain_settled}
 use Rattle.bson_laws.proofs.Known.{where_known}
@@ -378,8 +378,8 @@ mutual
   reads_content_again o at x n t v levels p suits c d e = absurd (no_some e)
 
 -- what a clean tree is at a shape is read from it in bytes
-pub reads_again : (at : Sight) (s : Form) (t : Tree) (v : Value) (levels : ℕ) → IsShape s → IsBorrowed at s → IsClean t → depth t ≤ levels → views s t ≡ Some v → ReadAs contents (in_bytes.reads s (tree_node at t levels)) v
-reads_again at s t v levels p borrows_input c d e = reads_back origins.Bytes at s t v levels p (borrowed_suits at s borrows_input) c d e
+pub reads_again : (at : Sight) (s : Form) (t : Tree) (v : Value) (levels : ℕ) → IsShape s → Suits origins.Bytes at s → IsClean t → depth t ≤ levels → views s t ≡ Some v → ReadAs contents (in_bytes.reads s (tree_node at t levels)) v
+reads_again at s t v levels p borrows_input c d e = reads_back origins.Bytes at s t v levels p borrows_input c d e
 
 pub enclosed_framed : (b : Bytes) → length (enclosed b) < 2 ^ 31 → IsFramed (enclosed b)
 enclosed_framed b l =
