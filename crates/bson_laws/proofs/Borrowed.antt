@@ -12,7 +12,7 @@ use Rattle.bson_values.specs.Value.{Value}
 use Rattle.bson_values.specs.Marked.{contents}
 use Rattle.bson_laws.specs.declared.origin.Origin.{Origin}
 use Rattle.bson_laws.specs.declared.origin.Origin.TheVariants as origins
-use Rattle.bson_laws.specs.Leaves.{LeafKind, anything, ignored, booleans, numbers, doubles, characters, texts, byte_strings, byte_buffers, units, extended_values, raw_documents, raw_arrays, raw_values, leaf_kind}
+use Rattle.bson_laws.specs.Leaves.{LeafKind, texts, byte_strings, leaf_kind}
 use Rattle.bson_laws.specs.Owned.{IsLeafOwned}
 use Rattle.bson_laws.specs.Plain.{OwnsTextLeaf}
 use Rattle.bson_laws.specs.Every.{EveryContent, EveryField, EveryPart, EveryVariant}

@@ -4,9 +4,8 @@ use Rattle.bson_rawdoc.specs.Node.{Sight}
 use Rattle.bson_shape.specs.Form.{Form, leaf, optional, lossy, human_readable, by_mode, sequence, newtype, unit_structure, map, tuple, tuple_structure, structure, enumeration, reference, definitions, Fields, no_fields, field, Parts, no_parts, part, Content, unit_content, newtype_content, tuple_content, struct_content, Variants, no_variants, variant}
 use Rattle.bson_laws.specs.declared.origin.Origin.{Origin}
 use Rattle.bson_laws.specs.declared.origin.Origin.TheVariants as origins
-use Rattle.bson_laws.specs.Leaves.{LeafKind, anything, ignored, booleans, numbers, doubles, characters, texts, byte_strings, byte_buffers, units, extended_values, raw_documents, raw_arrays, raw_values, leaf_kind}
+use Rattle.bson_laws.specs.Leaves.{LeafKind, texts, byte_strings}
 use Rattle.bson_laws.specs.Owned.{IsLeafOwned}
-use Rattle.bson_laws.specs.ReadsLeaf.{borrows}
 use Rattle.bson_laws.specs.Every.{EveryContent, EveryField, EveryPart, EveryVariant}
 use Rattle.bson_laws.specs.SuitsTrees.{SuitsTrees, trees_rows}
 use Rattle.bson_laws.proofs.Borrowed.{LeafBorrowed, LeafSuits, Suits, FieldsSuit, PartsSuit, VariantsSuit, ContentSuits}
