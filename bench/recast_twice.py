@@ -1,7 +1,7 @@
 #!/usr/bin/env python3
 """Recasts random documents at random shapes, and recasts each output at the same shape: it must come back unchanged.
 
-It tries on the built program what `law_fixed_point` proves. Most documents are made for their shape, with all that a shape takes (numbers of either
+It tries on the built program what `law_recast_again` proves. Most documents are made for their shape, with all that a shape takes (numbers of either
 width, byte strings as texts, arrays for structs, documents that stand for extended values, keys that repeat or that no field takes); some have bytes
 changed. What is refused the first time is not counted.
 

@@ -11,7 +11,7 @@
 //! | reading from trees | `from_bson_at`, `from_document_at`, and with options; `Deserializer`, `DeserializerOptions` |
 //! | writing to trees | `to_bson_at`, `to_document_at`, and with options; `Serializer`, with a writer for each form of value that is given part by part; `SerializerOptions` |
 //! | writing part by part | `DocumentWriter`, `VariantWriter`, `ValueWriter`, over an `Out` |
-//! | types of one's own | `Serialize`, `Deserialize`, `RoundTrip`, `NeverNull`; `to_vec`, `to_raw_document_buf`, `to_bson`, `to_document`, `from_bson`, `from_document`, and with options; `from_slice`, `from_reader`, and lossy; `FieldShapes`, `StructFields`, `add_field`, `struct_datum`, `VariantShapes`, `unit_variant`, `newtype_variant`, `is_unit_variant`, `newtype_value` and `not_fitting` for their impls; `HumanReadable`, `Utf8LossyDeserialization` and the modules of `bson_helpers` |
+//! | types of one's own | `Serialize`, `Deserialize`, `RoundTrip`, `NeverNull`; `to_vec`, `to_raw_document_buf`, `to_bson`, `to_document`, `from_bson`, `from_document`, and with options; `from_slice`, `from_reader`, and lossy; `FieldShapes`, `StructFields`, `add_field`, `struct_datum`, `VariantShapes`, `unit_variant`, `newtype_variant`, `is_unit_variant`, `newtype_value` and `not_fitting` for their impls; `HumanReadable`, `Utf8LossyDeserialization`, the modules of `bson_helpers` and the second names of their calls |
 //! | both at once | `recast`, `recast_utf8_lossy`, `recast_to_buf`, `recast_by_tree` |
 //! | the shape of documents | `infer` |
 //! | whether what is written at one shape is read at another | `check` and `Verdict` |
@@ -525,12 +525,24 @@ pub use bson_evolve_run::run_check;
 pub use bson_helpers::HumanReadable;
 pub use bson_helpers::Utf8LossyDeserialization;
 pub use bson_helpers::bson_datetime_as_rfc3339_string;
+pub use bson_helpers::deserialize_bson_datetime_from_rfc3339_string;
+pub use bson_helpers::deserialize_hex_string_from_object_id;
+pub use bson_helpers::deserialize_i64_from_bson_datetime;
+pub use bson_helpers::deserialize_rfc3339_string_from_bson_datetime;
+pub use bson_helpers::deserialize_timestamp_from_u32;
+pub use bson_helpers::deserialize_u32_from_timestamp;
 pub use bson_helpers::hex_string_as_object_id;
 pub use bson_helpers::i64_as_bson_datetime;
 pub use bson_helpers::rfc3339_string_as_bson_datetime;
+pub use bson_helpers::serialize_bson_datetime_as_rfc3339_string;
+pub use bson_helpers::serialize_hex_string_as_object_id;
+pub use bson_helpers::serialize_i64_as_bson_datetime;
 pub use bson_helpers::serialize_object_id_as_hex_string;
+pub use bson_helpers::serialize_rfc3339_string_as_bson_datetime;
+pub use bson_helpers::serialize_timestamp_as_u32;
 pub use bson_helpers::serialize_u32_as_i32;
 pub use bson_helpers::serialize_u32_as_i64;
+pub use bson_helpers::serialize_u32_as_timestamp;
 pub use bson_helpers::serialize_u64_as_i32;
 pub use bson_helpers::serialize_u64_as_i64;
 pub use bson_helpers::timestamp_as_u32;

@@ -4,10 +4,23 @@ ghost use Rattle.bson_de_tree.specs.Options.{is_readable};
 use std::marker::Model;
 
 /// Options of the reader of values in memory.
-#[derive(Clone, Copy, Debug, Default)]
+#[derive(Clone, Copy, Debug)]
 pub struct DeserializerOptions {
     /// Whether of a value with two forms the readable one is read; `None` means that it is.
     pub human_readable: Option<bool>,
+}
+
+impl Default for DeserializerOptions {
+    ghost use Rattle.std.specs.Prelude.{◌≡◌, None};
+
+    ghost is_default = { λ o. o.human_readable ≡ None };
+
+    /// Options that give none.
+    fn default() -> DeserializerOptions {
+        DeserializerOptions {
+            human_readable: None,
+        }
+    }
 }
 
 impl DeserializerOptions {

@@ -1,5 +1,8 @@
 ghost use Rattle.std.specs.Prelude.{◌≡◌};
+ghost use Rattle.std.specs.Process.{exit_status};
 ghost use Rattle.bson_evolve_run.specs.Number.{number_of};
+
+use std::process::ExitCode;
 
 /// How a comparison of two shapes ended.
 #[derive(Clone, Copy, Debug, PartialEq, Eq)]
@@ -28,5 +31,12 @@ impl CheckStatus {
             CheckStatus::SinkFault => 5,
             CheckStatus::NoMemory => 6,
         }
+    }
+
+    /// What the program ends with: its number.
+    pub fn code(self) -> ExitCode
+        ensures code { exit_status result ≡ number_of self }
+    {
+        ExitCode::from(self.number())
     }
 }

@@ -22,7 +22,7 @@ pub use hex_string_as_object_id::{
 pub use i64_as_bson_datetime::{
     deserialize as deserialize_i64_from_bson_datetime, serialize as serialize_i64_as_bson_datetime,
 };
-pub use marks::{HumanReadable, Utf8LossyDeserialization};
+pub use marks::{HumanReadable, Utf8LossyDeserialization, law_marks_compare};
 pub use numbers::{
     serialize_object_id_as_hex_string, serialize_u32_as_i32, serialize_u32_as_i64,
     serialize_u64_as_i32, serialize_u64_as_i64,

@@ -114,3 +114,15 @@ fn readable<'a>(alloc: Global, value: Datum<'a>) -> Result<Datum<'a>, AllocError
         value: boxed(alloc, value)?,
     })
 }
+
+/// Two values in a mark compare as the two values alone: whether they are equal, and which comes first.
+///
+/// The call does nothing.
+pub fn law_marks_compare<T: Ord>()
+    ensures readable_equal { (x y : T) → ⟦<HumanReadable<T> as PartialEq>⟧.eq (record { 0 = x }) (record { 0 = y }) ≡ T.eq x y }
+    ensures readable_partly { (x y : T) → ⟦<HumanReadable<T> as PartialOrd>⟧.partial_cmp (record { 0 = x }) (record { 0 = y }) ≡ T.partial_cmp x y }
+    ensures readable_ordered { (x y : T) → ⟦<HumanReadable<T> as Ord>⟧.cmp (record { 0 = x }) (record { 0 = y }) ≡ T.cmp x y }
+    ensures lossy_equal { (x y : T) → ⟦<Utf8LossyDeserialization<T> as PartialEq>⟧.eq (record { 0 = x }) (record { 0 = y }) ≡ T.eq x y }
+    ensures lossy_partly { (x y : T) → ⟦<Utf8LossyDeserialization<T> as PartialOrd>⟧.partial_cmp (record { 0 = x }) (record { 0 = y }) ≡ T.partial_cmp x y }
+    ensures lossy_ordered { (x y : T) → ⟦<Utf8LossyDeserialization<T> as Ord>⟧.cmp (record { 0 = x }) (record { 0 = y }) ≡ T.cmp x y }
+{}

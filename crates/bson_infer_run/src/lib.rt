@@ -16,9 +16,11 @@ mod shape;
 mod sound;
 mod status;
 mod summary;
+mod system;
 
 pub use error::InferError;
 pub use inferring::infer;
 pub use laws::{law_infer_files, law_sound};
 pub use running::run_infer;
 pub use status::InferStatus;
+pub use system::run_infer_here;

@@ -1,5 +1,8 @@
 ghost use Rattle.std.specs.Prelude.{◌≡◌};
+ghost use Rattle.std.specs.Process.{exit_status};
 ghost use Rattle.bson_infer_run.specs.Number.{number_of};
+
+use std::process::ExitCode;
 
 /// How an inference ended.
 #[derive(Clone, Copy, Debug, PartialEq, Eq)]
@@ -34,5 +37,12 @@ impl InferStatus {
             InferStatus::SinkFault => 5,
             InferStatus::NoMemory => 6,
         }
+    }
+
+    /// What the program ends with: its number.
+    pub fn code(self) -> ExitCode
+        ensures code { exit_status result ≡ number_of self }
+    {
+        ExitCode::from(self.number())
     }
 }

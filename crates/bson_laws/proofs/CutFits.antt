@@ -36,13 +36,13 @@ unit_from (Some (tuple_content ps)) (suc d) e = absurd cc
 unit_from (Some (struct_content fs)) zero e = absurd cc
 unit_from (Some (struct_content fs)) (suc d) e = absurd cc
 
-newtype_is : (s r : Form) → Some (newtype_content s) ≡ Some (newtype_content r) → s ≡ r
+pub newtype_is : (s r : Form) → Some (newtype_content s) ≡ Some (newtype_content r) → s ≡ r
 newtype_is s r e = cc
 
-tuple_is : (ps qs : Parts) → Some (tuple_content ps) ≡ Some (tuple_content qs) → ps ≡ qs
+pub tuple_is : (ps qs : Parts) → Some (tuple_content ps) ≡ Some (tuple_content qs) → ps ≡ qs
 tuple_is ps qs e = cc
 
-struct_is : (fs gs : Fields) → Some (struct_content fs) ≡ Some (struct_content gs) → fs ≡ gs
+pub struct_is : (fs gs : Fields) → Some (struct_content fs) ≡ Some (struct_content gs) → fs ≡ gs
 struct_is fs gs e = cc
 
 newtype_from : (o : Option Content) (d : ℕ) (r : Form) → option_map (λ c. cut_content c (suc d)) o ≡ Some (newtype_content r) → (s : Form) × (o ≡ Some (newtype_content s)) × (cut s d ≡ r)

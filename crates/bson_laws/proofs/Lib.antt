@@ -90,4 +90,5 @@ pub mod WritableUnrolled
 pub mod ShapeUnrolled
 pub mod PlainUnrolled
 pub mod AtShapes
+pub mod FitsUnrolled
 pub mod Scoped

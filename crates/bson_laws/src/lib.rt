@@ -165,7 +165,7 @@ pub fn law_reads_numbers()
 ///
 /// This holds at every shape that does not depend on whether the reader is human (`IsSettled`), those that keep values in their bytes included, and for every
 /// byte string, sound or not: a migration may be run again without harm. The call does nothing.
-pub fn law_fixed_point()
+pub fn law_recast_again()
     ensures again { (s : Form) (bytes : Bytes) (d : Value) (t : Tree) → IsShape s → IsSettled s → AreBytes bytes → reads_document s bytes ≡ Ok d
         → spell_document d ≡ Ok t
         → length (enc t) ≤ max_bytes → (v : Value) × (reads_document s (enc t) ≡ Ok v) × (spell_document v ≡ Ok t) }

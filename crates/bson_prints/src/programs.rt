@@ -1,13 +1,14 @@
 // What the programs are made of: the shape of a word, the input, the shape that documents have in common, and the comparison of two shapes.
 use bson_base::Document;
 use bson_evolve_check::check;
+use bson_growing::two;
 use bson_infer_run::{InferError, infer};
 use bson_io::MemorySource;
 use bson_lines::Lines;
 use bson_program::{InputEndings, read_input, shape_of_word};
 use bson_rawdoc::RawDocument;
 use bson_rawdoc::raw::Error;
-use bson_shape::Shape;
+use bson_shape::{ParseError, Shape};
 use std::alloc::{AllocError, Global};
 
 /// The document `{i: 1}`.
@@ -55,25 +56,33 @@ fn add_input(lines: &mut Lines, alloc: Global, failing: u64) {
     }
 }
 
+/// A document in memory.
+fn document(alloc: Global, bytes: &[u8]) -> Result<Document, Error> {
+    RawDocument::from_bytes(bytes)?.to_document(alloc)
+}
+
 /// Two documents in memory.
 fn documents(alloc: Global) -> Result<Vec<Document>, Error> {
-    let one = RawDocument::from_bytes(ONE)?.to_document(alloc)?;
-    let empty = RawDocument::from_bytes(EMPTY)?.to_document(alloc)?;
-    Ok(vec![in alloc; one, empty]?)
+    let one = document(alloc, ONE)?;
+    let empty = document(alloc, EMPTY)?;
+    Ok(two(alloc, one, empty)?)
 }
 
 /// Adds a shape that was inferred.
-fn add_inferred(lines: &mut Lines, alloc: Global, inferred: &Result<Shape, InferError>) {
+fn add_inferred(lines: &mut Lines, alloc: Global, inferred: Result<Shape, InferError>) {
     match inferred {
         Ok(shape) => lines.written("infer", &shape.print(alloc)),
-        Err(error) => lines.text("infer", error),
+        Err(error) => lines.text("infer", &error),
     }
 }
 
 /// Adds the shape that documents have in common.
 fn add_documents(lines: &mut Lines, alloc: Global) {
     match documents(alloc) {
-        Ok(documents) => add_inferred(lines, alloc, &infer(alloc, &documents)),
+        Ok(documents) => {
+            add_inferred(lines, alloc, infer(alloc, &documents));
+            drop(documents);
+        }
         Err(fault) => lines.debug("no documents", &fault),
     }
 }
@@ -83,17 +92,21 @@ fn add_check(lines: &mut Lines, alloc: Global, old: &Shape, new: &Shape) {
     lines.made("check", check(alloc, old, new));
 }
 
+/// A shape, and a wider one.
+fn shapes(alloc: Global) -> Result<(Shape, Shape), ParseError> {
+    let narrow = Shape::parse(alloc, "{i:i32}")?;
+    let wide = Shape::parse(alloc, "{i:i64}")?;
+    Ok((narrow, wide))
+}
+
 /// Adds two shapes, compared in both ways.
 fn add_checks(lines: &mut Lines, alloc: Global) {
-    match (
-        Shape::parse(alloc, "{i:i32}"),
-        Shape::parse(alloc, "{i:i64}"),
-    ) {
-        (Ok(narrow), Ok(wide)) => {
+    match shapes(alloc) {
+        Ok((narrow, wide)) => {
             add_check(lines, alloc, &narrow, &wide);
             add_check(lines, alloc, &wide, &narrow);
         }
-        _ => lines.line("no shapes"),
+        Err(error) => lines.text("no shapes", &error),
     }
 }
 

@@ -6,9 +6,11 @@ mod delivery;
 mod endings;
 mod input;
 mod shape_word;
+mod system;
 
 pub use answer::Answer;
 pub use delivery::finish;
 pub use endings::{Endings, InputEndings};
 pub use input::read_input;
 pub use shape_word::shape_of_word;
+pub use system::{BAD_ARGUMENTS, words};

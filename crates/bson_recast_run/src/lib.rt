@@ -7,6 +7,8 @@ mod making;
 mod options;
 mod running;
 mod status;
+mod system;
 
 pub use running::{law_run_again, run};
 pub use status::Status;
+pub use system::run_here;

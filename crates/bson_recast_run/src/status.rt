@@ -1,5 +1,8 @@
 ghost use Rattle.std.specs.Prelude.{◌≡◌};
+ghost use Rattle.std.specs.Process.{exit_status};
 ghost use Rattle.bson_recast_run.specs.Number.{number_of};
+
+use std::process::ExitCode;
 
 /// How a run ended.
 #[derive(Clone, Copy, Debug, PartialEq, Eq)]
@@ -34,5 +37,12 @@ impl Status {
             Status::SinkFault => 5,
             Status::NoMemory => 6,
         }
+    }
+
+    /// What the program ends with: its number.
+    pub fn code(self) -> ExitCode
+        ensures code { exit_status result ≡ number_of self }
+    {
+        ExitCode::from(self.number())
     }
 }

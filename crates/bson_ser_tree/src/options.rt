@@ -3,10 +3,23 @@ ghost use Rattle.std.specs.Prelude.{◌≡◌, None};
 use std::marker::Model;
 
 /// Options of the writer of values.
-#[derive(Clone, Copy, Debug, Default)]
+#[derive(Clone, Copy, Debug)]
 pub struct SerializerOptions {
     /// Whether a value with two forms is written in its readable form; `None` means that it is.
     pub human_readable: Option<bool>,
+}
+
+impl Default for SerializerOptions {
+    ghost use Rattle.std.specs.Prelude.{◌≡◌, None};
+
+    ghost is_default = { λ o. o.human_readable ≡ None };
+
+    /// Options that give none.
+    fn default() -> SerializerOptions {
+        SerializerOptions {
+            human_readable: None,
+        }
+    }
 }
 
 impl SerializerOptions {

@@ -16,6 +16,7 @@ use std::io;
 fn add_all(lines: &mut Lines, alloc: Global) {
     values::add_numbers(lines);
     values::add_values(lines, alloc);
+    values::add_comparisons(lines);
     documents::add_documents(lines, alloc);
     helpers::add_helpers(lines, alloc);
     tables::add_tables(lines, alloc);

@@ -56,6 +56,30 @@ pub fn add_value<'de, T: Serialize + Deserialize<'de> + Debug + Drop>(
     }
 }
 
+/// How two numbers compare, alone and in the marks.
+pub fn add_comparisons(lines: &mut Lines) {
+    compare(lines, &5i32, &7i32);
+    compare(lines, &HumanReadable(5i32), &HumanReadable(7i32));
+    compare(
+        lines,
+        &Utf8LossyDeserialization(7i32),
+        &Utf8LossyDeserialization(5i32),
+    );
+    compare(lines, &HumanReadable(5i32), &HumanReadable(5i32));
+    compare(
+        lines,
+        &Utf8LossyDeserialization(5i32),
+        &Utf8LossyDeserialization(5i32),
+    );
+}
+
+/// Adds whether two values are equal, and how they compare, where they may not and where they do.
+fn compare<T: Ord>(lines: &mut Lines, value: &T, other: &T) {
+    lines.debug("equal", &(value == other));
+    lines.debug("partial_cmp", &value.partial_cmp(other));
+    lines.debug("cmp", &value.cmp(other));
+}
+
 /// The bytes of the UUID `67e55044-10b1-426f-9247-bb680e5fe0c8`.
 const UUID: [u8; 16] = [
     0x67, 0xe5, 0x50, 0x44, 0x10, 0xb1, 0x42, 0x6f, 0x92, 0x47, 0xbb, 0x68, 0x0e, 0x5f, 0xe0, 0xc8,
