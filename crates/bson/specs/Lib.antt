@@ -78,6 +78,7 @@ pub use Rattle.bson_laws.specs.UuidBytes
 pub use Rattle.bson_laws.specs.Datum
 pub use Rattle.bson_laws.specs.Depths
 pub use Rattle.bson_laws.specs.Encodable
+pub use Rattle.bson_laws.specs.Every
 pub use Rattle.bson_laws.specs.Fits
 pub use Rattle.bson_laws.specs.InRange
 pub use Rattle.bson_laws.specs.Judged

@@ -3,10 +3,10 @@ use Rattle.std.proofs.Common.{◌≡◌, ℕ, zero, suc, ◌≤◌, Bool, true, 
 use Rattle.std.specs.Str.{bytes_eq}
 use Rattle.bson_kinds.specs.Text.{Utf8}
 use Rattle.bson_kinds.specs.Outcome.{◌>>=◌, result_map}
-use Rattle.bson_rawdoc.specs.Node.{Node, string, document, array, extended, too_deep, Extended, binary, undefined, object_id, date_time, regular_expression, db_pointer, javascript_code, symbol, javascript_code_with_scope, timestamp, decimal128, max_key, min_key, Nodes, ended, faulty, then_node, fault, mended, mended_nodes, mended_value, opened}
+use Rattle.bson_rawdoc.specs.Node.{Node, string, document, array, extended, too_deep, Extended, binary, javascript_code_with_scope, Nodes, ended, faulty, then_node, fault, mended, mended_nodes, mended_value, opened}
 use Rattle.bson_kinds.specs.Piece.{Piece, made}
 use Rattle.bson_faults.specs.declared.raw.Error.{Error}
-use Rattle.bson_shape.specs.Form.{dropped, Form, leaf, optional, lossy, human_readable, by_mode, sequence, newtype, unit_structure, map, tuple, tuple_structure, structure, enumeration, reference, definitions, Fields, no_fields, field, Parts, no_parts, part, Content, unit_content, newtype_content, tuple_content, struct_content, Variants, no_variants, variant}
+use Rattle.bson_shape.specs.Form.{dropped, Form, leaf, optional, lossy, human_readable, by_mode, sequence, newtype, map, tuple, tuple_structure, structure, enumeration, definitions, Fields, no_fields, field, Parts, no_parts, part, Content, unit_content, newtype_content, tuple_content, struct_content, Variants, no_variants, variant}
 use Rattle.bson_values.specs.Value as value
 use Rattle.bson_values.specs.Value.{readable_newtype, item, no_entries}
 use Rattle.bson_values.specs.Marked.{Marked, MarkedItems, MarkedEntries}

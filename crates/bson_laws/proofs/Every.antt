@@ -3,7 +3,6 @@ use Rattle.std.proofs.Common.{ℕ, Bool, true, false, cond}
 use Rattle.std.specs.Str.{bytes_eq}
 use Rattle.bson_kinds.specs.Text.{Utf8}
 use Rattle.bson_shape.specs.Form.{Form, leaf, optional, lossy, human_readable, by_mode, sequence, newtype, unit_structure, map, tuple, tuple_structure, structure, enumeration, reference, definitions, Fields, no_fields, field, Parts, no_parts, part, Content, unit_content, newtype_content, tuple_content, struct_content, Variants, no_variants, variant}
-use Rattle.bson_shape.specs.declared.leaf.Leaf.{Leaf}
 use Rattle.bson_laws.specs.Every.{Rows, Every, EveryField, EveryDefinition, EveryPart, EveryVariant, EveryContent}
 use Rattle.bson_laws.specs.Unrolled.{Meanings, unrolled, unrolled_name, unrolled_fields, unrolled_parts, unrolled_variants, unrolled_content, names_in, max_steps, whole}
 use Rattle.bson_laws.proofs.Unrolling.{names_keep}

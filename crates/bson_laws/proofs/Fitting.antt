@@ -1,7 +1,7 @@
 -- What fits a leaf, and a form whose texts are mended, of whatever form the value is.
 use Rattle.bson_shape.specs.Form.{Form, leaf, lossy, definitions, Fields}
 use Rattle.bson_shape.specs.declared.leaf.Leaf.{Leaf}
-use Rattle.bson_values.specs.Value.{Value, boolean, integer, double, character, str, bytes, none, some, unit, unit_structure, newtype, sequence, map, structure, unit_variant, newtype_variant, tuple, tuple_structure, tuple_variant, structure_variant, raw_document, raw_array, mode}
+use Rattle.bson_values.specs.Value.{Value, boolean, none}
 use Rattle.bson_laws.specs.Leaves.{leaf_kind}
 use Rattle.bson_laws.specs.Fits.{FitsLeaf, Fits}
 

@@ -1,7 +1,6 @@
 -- Plainness of forms that are unrolled: a reference that is left asks for nothing, and definitions have no names left.
-use Rattle.bson_kinds.specs.Text.{Utf8, IsFreeName}
+use Rattle.bson_kinds.specs.Text.{IsFreeName}
 use Rattle.bson_shape.specs.Form.{Form, lossy, human_readable, by_mode, newtype, structure, Fields, Parts, Content, Variants}
-use Rattle.bson_shape.specs.declared.leaf.Leaf.{Leaf}
 use Rattle.bson_laws.specs.Every.{Rows, asking_nothing, Every, EveryField, EveryPart, EveryVariant, EveryContent}
 use Rattle.bson_laws.specs.Leaves.{leaf_kind}
 use Rattle.bson_laws.specs.Plain.{IsKept, OwnsTextLeaf, IsPlainKey}

@@ -14,9 +14,9 @@ use Rattle.bson_rawdoc.specs.Envelope.{envelope}
 use Rattle.bson_rawdoc.specs.Node as node
 use Rattle.bson_rawdoc.specs.Node.{Sight, Node, from_input, from_memory, piece, Nodes, node_in, tree_node, pair_nodes, tree_nodes}
 use Rattle.bson_kinds.specs.Piece.{made}
-use Rattle.bson_shape.specs.Form.{UnknownFields, dropped, denied, Form, leaf, optional, lossy, human_readable, by_mode, sequence, newtype, unit_structure, map, tuple, tuple_structure, structure, enumeration, reference, definitions, Fields, no_fields, field, Parts, no_parts, part, Content, unit_content, newtype_content, tuple_content, struct_content, Variants, no_variants, variant}
+use Rattle.bson_shape.specs.Form.{UnknownFields, dropped, denied, Form, leaf, optional, lossy, sequence, newtype, unit_structure, map, tuple, tuple_structure, structure, enumeration, definitions, Fields, no_fields, field, Parts, no_parts, part, Content, unit_content, newtype_content, tuple_content, struct_content, Variants, no_variants, variant}
 use Rattle.bson_shape.specs.Makers.{has_field, repeats}
-use Rattle.bson_laws.specs.Leaves.{LeafKind, anything, ignored, booleans, numbers, doubles, characters, texts, byte_strings, byte_buffers, units, extended_values, raw_documents, raw_arrays, raw_values, leaf_kind}
+use Rattle.bson_laws.specs.Leaves.{LeafKind, anything, booleans, numbers, doubles, characters, texts, byte_strings, byte_buffers, units, extended_values, leaf_kind}
 use Rattle.bson_values.specs.Value as value
 use Rattle.bson_values.specs.Value.{IntegerType, in_range, Value, Items, no_items, item, no_entries, FieldValues, no_field_values, field_value}
 use Rattle.bson_values.specs.Marked.{Marked, MarkedItems, MarkedFields, contents, item_contents, field_contents}
@@ -50,8 +50,8 @@ use Rattle.bson_laws.proofs.Codec.{seen_again}
 use Rattle.bson_laws.proofs.Filled.{Distinct, ArePassed, seen_of, seen_at, seen_fields, fields_seen}
 use Rattle.bson_laws.proofs.Ignored.{ignores_again}
 use Rattle.bson_laws.proofs.Judged.{ReadAs, by_null, judged_again, document_again, array_again}
-use Rattle.bson_laws.proofs.Borrowed.{LeafBorrowed, IsBorrowed, borrowed_from_input, borrowed_text}
-use Rattle.bson_laws.proofs.Suited.{LeafSuits, Suits, FieldsSuit, PartsSuit, VariantsSuit, ContentSuits, HasParts, marked_at, suits_borrowed, borrowed_suits, tree_suits}
+use Rattle.bson_laws.proofs.Borrowed.{LeafBorrowed, LeafSuits, Suits, FieldsSuit, PartsSuit, VariantsSuit, ContentSuits, HasParts, marked_at, borrowed_from_input, borrowed_text}
+use Rattle.bson_laws.proofs.Suited.{suits_borrowed, tree_suits}
 use Rattle.bson_laws.proofs.Mended.{tree_mended}
 use Rattle.bson_laws.proofs.Settled.{settled_same, plain_settled}
 use Rattle.bson_laws.proofs.Known.{where_known}
@@ -378,8 +378,8 @@ mutual
   reads_content_again o at x n t v levels p suits c d e = absurd (no_some e)
 
 -- what a clean tree is at a shape is read from it in bytes
-pub reads_again : (at : Sight) (s : Form) (t : Tree) (v : Value) (levels : ℕ) → IsShape s → IsBorrowed at s → IsClean t → depth t ≤ levels → views s t ≡ Some v → ReadAs contents (in_bytes.reads s (tree_node at t levels)) v
-reads_again at s t v levels p borrows_input c d e = reads_back origins.Bytes at s t v levels p (borrowed_suits at s borrows_input) c d e
+pub reads_again : (at : Sight) (s : Form) (t : Tree) (v : Value) (levels : ℕ) → IsShape s → Suits origins.Bytes at s → IsClean t → depth t ≤ levels → views s t ≡ Some v → ReadAs contents (in_bytes.reads s (tree_node at t levels)) v
+reads_again at s t v levels p borrows_input c d e = reads_back origins.Bytes at s t v levels p borrows_input c d e
 
 pub enclosed_framed : (b : Bytes) → length (enclosed b) < 2 ^ 31 → IsFramed (enclosed b)
 enclosed_framed b l =

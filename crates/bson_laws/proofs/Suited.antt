@@ -4,103 +4,11 @@ use Rattle.bson_rawdoc.specs.Node.{Sight}
 use Rattle.bson_shape.specs.Form.{Form, leaf, optional, lossy, human_readable, by_mode, sequence, newtype, unit_structure, map, tuple, tuple_structure, structure, enumeration, reference, definitions, Fields, no_fields, field, Parts, no_parts, part, Content, unit_content, newtype_content, tuple_content, struct_content, Variants, no_variants, variant}
 use Rattle.bson_laws.specs.declared.origin.Origin.{Origin}
 use Rattle.bson_laws.specs.declared.origin.Origin.TheVariants as origins
-use Rattle.bson_laws.specs.Leaves.{LeafKind, anything, ignored, booleans, numbers, doubles, characters, texts, byte_strings, byte_buffers, units, extended_values, raw_documents, raw_arrays, raw_values, leaf_kind}
+use Rattle.bson_laws.specs.Leaves.{LeafKind, texts, byte_strings}
 use Rattle.bson_laws.specs.Owned.{IsLeafOwned}
-use Rattle.bson_laws.specs.ReadsLeaf.{borrows}
 use Rattle.bson_laws.specs.Every.{EveryContent, EveryField, EveryPart, EveryVariant}
 use Rattle.bson_laws.specs.SuitsTrees.{SuitsTrees, trees_rows}
-use Rattle.bson_laws.proofs.Borrowed.{LeafBorrowed, IsBorrowed, AreFieldsBorrowed, ArePartsBorrowed, AreVariantsBorrowed, IsContentBorrowed, marked}
-
--- in bytes a leaf has what it borrows; from a tree it borrows nothing
-abbrev pub LeafSuits : Origin → Sight → (is_borrowing : Bool) → LeafKind → Type 0
-LeafSuits origins.Bytes at l k = LeafBorrowed at l k
-LeafSuits origins.Tree at l k = IsLeafOwned l k
-
--- a mark makes nothing of a tree in memory
-abbrev pub marked_at : Origin → Sight → Sight
-marked_at origins.Bytes at = marked at
-marked_at origins.Tree at = at
-
--- the contents of a tuple variant have a part, where they are taken from a tree
-abbrev pub HasParts : Origin → Parts → Type 0
-HasParts origins.Bytes ps = Unit {0}
-HasParts origins.Tree no_parts = ⊥
-HasParts origins.Tree (part s ps) = Unit {0}
-
-abbrev mutual
-  -- what each leaf of the shape borrows is there, and what each variant has is taken
-  pub Suits : Origin → Sight → Form → Type 0
-  Suits o at (leaf l) = LeafSuits o at (borrows l) (leaf_kind l)
-  Suits o at (optional s) = Suits o at s
-  Suits o at (lossy s) = Suits o (marked_at o at) s
-  Suits o at (human_readable s) = Suits o at s
-  Suits o at (by_mode readable compact) = Suits o at readable × Suits o at compact
-  Suits o at (newtype name s) = Suits o at s
-  Suits o at (unit_structure name) = Unit {0}
-  Suits o at (sequence s) = Suits o at s
-  Suits o at (map key s) = Suits o at key × Suits o at s
-  Suits o at (tuple ps) = PartsSuit o at ps
-  Suits o at (tuple_structure name ps) = PartsSuit o at ps
-  Suits o at (enumeration vs) = VariantsSuit o at vs
-  Suits o at (structure u name fs) = FieldsSuit o at fs
-  Suits o at (reference name) = Unit {0}
-  Suits o at (definitions h s) = Suits o at s
-
-  pub FieldsSuit : Origin → Sight → Fields → Type 0
-  FieldsSuit o at no_fields = Unit {0}
-  FieldsSuit o at (field name s fs) = Suits o at s × FieldsSuit o at fs
-
-  pub PartsSuit : Origin → Sight → Parts → Type 0
-  PartsSuit o at no_parts = Unit {0}
-  PartsSuit o at (part s ps) = Suits o at s × PartsSuit o at ps
-
-  pub VariantsSuit : Origin → Sight → Variants → Type 0
-  VariantsSuit o at no_variants = Unit {0}
-  VariantsSuit o at (variant name c vs) = ContentSuits o at c × VariantsSuit o at vs
-
-  pub ContentSuits : Origin → Sight → Content → Type 0
-  ContentSuits o at unit_content = Unit {0}
-  ContentSuits o at (newtype_content s) = Suits o at s
-  ContentSuits o at (tuple_content ps) = HasParts o ps × PartsSuit o at ps
-  ContentSuits o at (struct_content fs) = FieldsSuit o at fs
-
--- ---- in bytes
-
-mutual
-  pub borrowed_suits : (at : Sight) (s : Form) → IsBorrowed at s → Suits origins.Bytes at s
-  borrowed_suits at (leaf l) h = h
-  borrowed_suits at (optional s) h = borrowed_suits at s h
-  borrowed_suits at (lossy s) h = borrowed_suits (marked at) s h
-  borrowed_suits at (human_readable s) h = borrowed_suits at s h
-  borrowed_suits at (by_mode readable compact) h = (borrowed_suits at readable h.0, borrowed_suits at compact h.1)
-  borrowed_suits at (newtype name s) h = borrowed_suits at s h
-  borrowed_suits at (unit_structure name) h = tt
-  borrowed_suits at (sequence s) h = borrowed_suits at s h
-  borrowed_suits at (map key s) h = (borrowed_suits at key h.0, borrowed_suits at s h.1)
-  borrowed_suits at (tuple ps) h = parts_borrowed_suit at ps h
-  borrowed_suits at (tuple_structure name ps) h = parts_borrowed_suit at ps h
-  borrowed_suits at (enumeration vs) h = variants_borrowed_suit at vs h
-  borrowed_suits at (structure u name fs) h = fields_borrowed_suit at fs h
-  borrowed_suits at (reference name) h = tt
-  borrowed_suits at (definitions t s) h = borrowed_suits at s h
-
-  fields_borrowed_suit : (at : Sight) (fs : Fields) → AreFieldsBorrowed at fs → FieldsSuit origins.Bytes at fs
-  fields_borrowed_suit at no_fields h = tt
-  fields_borrowed_suit at (field name s fs) h = (borrowed_suits at s h.0, fields_borrowed_suit at fs h.1)
-
-  parts_borrowed_suit : (at : Sight) (ps : Parts) → ArePartsBorrowed at ps → PartsSuit origins.Bytes at ps
-  parts_borrowed_suit at no_parts h = tt
-  parts_borrowed_suit at (part s ps) h = (borrowed_suits at s h.0, parts_borrowed_suit at ps h.1)
-
-  variants_borrowed_suit : (at : Sight) (vs : Variants) → AreVariantsBorrowed at vs → VariantsSuit origins.Bytes at vs
-  variants_borrowed_suit at no_variants h = tt
-  variants_borrowed_suit at (variant name c vs) h = (content_borrowed_suits at c h.0, variants_borrowed_suit at vs h.1)
-
-  content_borrowed_suits : (at : Sight) (c : Content) → IsContentBorrowed at c → ContentSuits origins.Bytes at c
-  content_borrowed_suits at unit_content h = tt
-  content_borrowed_suits at (newtype_content s) h = borrowed_suits at s h
-  content_borrowed_suits at (tuple_content ps) h = (tt, parts_borrowed_suit at ps h)
-  content_borrowed_suits at (struct_content fs) h = fields_borrowed_suit at fs h
+use Rattle.bson_laws.proofs.Borrowed.{LeafBorrowed, LeafSuits, Suits, FieldsSuit, PartsSuit, VariantsSuit, ContentSuits}
 
 -- ---- from a tree
 

@@ -1,6 +1,6 @@
 -- A form that suits trees is unrolled to such a form.
 use Rattle.std.proofs.Common.{ℕ}
-use Rattle.bson_shape.specs.Form.{Form, Content, unit_content, newtype_content, tuple_content, struct_content, no_parts, part}
+use Rattle.bson_shape.specs.Form.{Form, Content, tuple_content, no_parts}
 use Rattle.bson_laws.specs.SuitsTrees.{HasTreeParts, trees_rows, SuitsTrees}
 use Rattle.bson_laws.specs.Unrolled.{Meanings, unrolled_content, whole}
 use Rattle.bson_laws.proofs.Every.{AreKept, every_whole}

@@ -8,7 +8,7 @@ use Rattle.bson_shape.specs.declared.leaf.Leaf.TheVariants as leaves
 use Rattle.bson_values.specs.Marked.{Marked}
 use Rattle.bson_laws.specs.declared.origin.Origin.TheVariants as origins
 use Rattle.bson_laws.specs.Judged.{Reading, judged}
-use Rattle.bson_laws.specs.Leaves.{LeafKind, anything, ignored, booleans, numbers, doubles, characters, texts, byte_strings, byte_buffers, units, extended_values, raw_documents, raw_arrays, raw_values, leaf_kind}
+use Rattle.bson_laws.specs.Leaves.{LeafKind, texts, byte_strings, raw_documents, raw_arrays, raw_values, leaf_kind}
 use Rattle.bson_laws.specs.Owned.{IsTextOwned}
 use Rattle.bson_laws.specs.ReadsFrom.{read_leaf, reads_from}
 use Rattle.bson_laws.specs.ReadsLeaf.{borrows}

@@ -1,7 +1,7 @@
 -- What a form keeps that is unrolled: its names, and which variants are units.
 use Rattle.std.proofs.Common.{◌≡◌, ℕ, zero, suc, ◌∷◌, refl, ap}
 use Rattle.std.specs.Prelude.{◌&&◌}
-use Rattle.bson_shape.specs.Form.{Form, enumeration, Fields, no_fields, field, Content, unit_content, newtype_content, tuple_content, struct_content, Variants, no_variants, variant}
+use Rattle.bson_shape.specs.Form.{Form, enumeration, Fields, no_fields, field, Content, unit_content, Variants, no_variants, variant}
 use Rattle.bson_shape.specs.Guarded.{count}
 use Rattle.bson_shape.specs.Makers.{field_names, variant_names, is_unit, are_units, is_text_key}
 use Rattle.bson_laws.specs.Unrolled.{Meanings, undefined, repeated, unrolled, unrolled_fields, unrolled_variants, unrolled_content, step, names_in}

@@ -1,7 +1,6 @@
 -- The form of a shape once it is known whether the reader is human. Source: serde's `is_human_readable`.
 use Rattle.std.specs.Prelude.{Bool, true, if◌then◌else◌}
 use Rattle.bson_shape.specs.Form.{Form, leaf, optional, lossy, human_readable, by_mode, sequence, newtype, unit_structure, map, tuple, tuple_structure, structure, enumeration, reference, definitions, Fields, no_fields, field, Parts, no_parts, part, Content, unit_content, newtype_content, tuple_content, struct_content, Variants, no_variants, variant}
-use Rattle.bson_shape.specs.declared.leaf.Leaf.{Leaf}
 use Rattle.bson_laws.specs.Every.{Rows, asking_nothing, Every}
 
 -- of two forms the one that applies, for each reader

@@ -2,7 +2,7 @@
 use Rattle.std.proofs.Common.{◌≡◌, ℕ, Bool, true, false, refl, ap, rules}
 use Rattle.std.specs.Prelude.{◌&&◌, not}
 use Rattle.bson_kinds.specs.Text.{Utf8, has_zero, IsFreeName, is_free_name}
-use Rattle.bson_shape.specs.Form.{Form, leaf, optional, lossy, human_readable, by_mode, sequence, newtype, unit_structure, map, tuple, tuple_structure, structure, dropped, denied, enumeration, reference, definitions, Fields, no_fields, field}
+use Rattle.bson_shape.specs.Form.{Form, leaf, optional, sequence, structure, dropped, Fields, no_fields, field}
 use Rattle.bson_shape.specs.declared.leaf.Leaf.{Leaf}
 use Rattle.bson_shape.specs.declared.leaf.Leaf.TheVariants as leaves
 use Rattle.bson_laws.specs.Leaves.{leaf_kind}

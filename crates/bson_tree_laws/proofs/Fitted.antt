@@ -1,5 +1,5 @@
 -- What fits a plain shape is written alike by both writers, and what it means is the tree that it is made into.
-use Rattle.std.proofs.Common.{◌≡◌, ℕ, zero, suc, ◌≤◌, Bool, true, false, Some, Ok, refl, ap, sym, ◌∙◌, subst}
+use Rattle.std.proofs.Common.{◌≡◌, ℕ, suc, ◌≤◌, Bool, true, false, Some, Ok, refl, ap, sym, ◌∙◌, subst}
 use Rattle.bson_kinds.specs.Reserved.{reserved_kind}
 use Rattle.bson_base.specs.Sound.{IsClean, ArePairsClean, AreTreesClean}
 use Rattle.bson_base.specs.Tree as tree
@@ -11,7 +11,7 @@ use Rattle.bson_laws.specs.Datum.{datum, itself, pair_data, tree_data}
 use Rattle.bson_laws.specs.Depths.{value_depth}
 use Rattle.bson_laws.specs.Fits.{IsText, IsAny, AreAnyItems, AreAnyEntries, IsTreeValue, FitsExtended, FitsLeaf, FitsLeafKey, FitsKey, Fits, ItemsFit, PartsFit, EntriesFit, FieldsFit}
 use Rattle.bson_laws.specs.InRange.{IsInRange, ArePairsInRange, AreTreesInRange}
-use Rattle.bson_laws.specs.Leaves.{LeafKind, anything, booleans, numbers, doubles, characters, texts, byte_strings, byte_buffers, units, extended_values, ExtendedLeaf, object_ids, uuids, of_kind, trees, documents, leaf_kind}
+use Rattle.bson_laws.specs.Leaves.{LeafKind, anything, booleans, numbers, doubles, characters, texts, byte_strings, byte_buffers, units, extended_values, ExtendedLeaf, uuids, trees, leaf_kind}
 use Rattle.bson_laws.specs.Means.{means}
 use Rattle.bson_laws.specs.Plain as plain
 use Rattle.bson_laws.specs.Recursive.{FitsIn}

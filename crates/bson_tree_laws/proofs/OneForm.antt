@@ -14,7 +14,7 @@ use Rattle.bson_values.specs.Value as value
 use Rattle.bson_values.specs.Value.{Value, uuid_newtype, Items, no_items, item, Entries, no_entries, entry, FieldValues, no_field_values, field_value}
 use Rattle.bson_laws.specs.Datum.{datum, itself, pair_data, tree_data}
 use Rattle.bson_laws.specs.Fits.{IsText, IsAny, AreAnyItems, AreAnyEntries, IsTreeValue, FitsExtended, FitsLeaf, Fits, ItemsFit, PartsFit, EntriesFit, FieldsFit}
-use Rattle.bson_laws.specs.Leaves.{LeafKind, anything, booleans, numbers, doubles, characters, texts, byte_strings, byte_buffers, units, extended_values, ExtendedLeaf, object_ids, uuids, of_kind, trees, documents, leaf_kind}
+use Rattle.bson_laws.specs.Leaves.{LeafKind, anything, booleans, numbers, doubles, characters, texts, byte_strings, byte_buffers, units, extended_values, ExtendedLeaf, uuids, trees, leaf_kind}
 use Rattle.bson_laws.specs.Spell.{spell_uuid, spell_scoped, spell_key, named, enclosed_at, variant_at, struct_at, reserved_at, spell_as, spell_items_as, spell_entries_as, spell_fields_as, spell_list}
 use Rattle.bson_laws.specs.Unwrap.{a_key, a_value, unwrap, scoped_code}
 use Rattle.bson_laws.specs.UuidBytes.{uuid_bytes}

@@ -13,14 +13,14 @@ use Rattle.bson_base.specs.Tree.{Tree, string, document, array, binary, null, ja
 use Rattle.bson_kinds.specs.declared.element_type.ElementType.{ElementType}
 use Rattle.bson_kinds.specs.declared.element_type.ElementType.TheVariants.{EmbeddedDocument, Array, JavaScriptCodeWithScope}
 use Rattle.bson_kinds.proofs.Outcomes.{some_is, some_map, some_then, bind_ok}
-use Rattle.bson_shape.specs.Form.{Form, leaf, optional, lossy, human_readable, by_mode, sequence, newtype, unit_structure, map, tuple, tuple_structure, structure, enumeration, reference, definitions, Fields, no_fields, field, Parts, no_parts, part, Content, unit_content, newtype_content, tuple_content, struct_content, Variants, no_variants, variant}
+use Rattle.bson_shape.specs.Form.{Form, leaf, optional, lossy, sequence, newtype, unit_structure, map, tuple, tuple_structure, structure, enumeration, definitions, Fields, no_fields, field, Parts, no_parts, part, Content, newtype_content, tuple_content, struct_content, Variants, no_variants, variant}
 use Rattle.bson_shape.specs.Makers as makers
 use Rattle.bson_shape.specs.Makers.{has_repeat, field_names, has_field, AreDistinct}
 use Rattle.bson_values.specs.Refusal.{at_index, under, under_index}
 use Rattle.bson_values.specs.Value as value
 use Rattle.bson_values.specs.Value.{IntegerType, i8, i16, i32, i64, u8, u16, u32, u64, written_as, in_range, kind_as, Value, Items, no_items, item, Entries, no_entries, entry, FieldValues, no_field_values, field_value}
 use Rattle.bson_laws.specs.Datum.{datum, itself, uuid_datum, sorted_tree, sorted_pairs, sorted_trees}
-use Rattle.bson_laws.specs.Leaves.{LeafKind, anything, ignored, booleans, numbers, doubles, characters, texts, byte_strings, byte_buffers, units, extended_values, ExtendedLeaf, object_ids, uuids, of_kind, trees, documents, raw_documents, raw_arrays, raw_values, leaf_kind}
+use Rattle.bson_laws.specs.Leaves.{LeafKind, anything, booleans, numbers, doubles, characters, texts, byte_strings, byte_buffers, units, extended_values, ExtendedLeaf, object_ids, uuids, of_kind, trees, documents, leaf_kind}
 use Rattle.bson_laws.specs.Means.{key_text}
 use Rattle.bson_laws.specs.Plain as plain
 use Rattle.bson_laws.specs.Recursive.{view}

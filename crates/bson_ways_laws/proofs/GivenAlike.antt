@@ -1,5 +1,5 @@
 -- What is read at a shape, and is spelled without keys that begin with `$`, is made into that tree: its keys are texts or unit variants, its reserved structs are extended values as data, and no key is repeated.
-use Rattle.std.proofs.Common.{◌≡◌, ℕ, ℤ, zero, suc, Bool, true, false, cond, Option, Some, Ok, refl, ap, sym, subst, ◌∙◌}
+use Rattle.std.proofs.Common.{◌≡◌, ℕ, ℤ, suc, Bool, true, false, cond, Option, Some, Ok, refl, ap, sym, subst, ◌∙◌}
 use Rattle.std.specs.Prelude.{encode_utf8, ◌||◌}
 use Rattle.std.specs.Str.{bytes_eq}
 use Rattle.bson_kinds.specs.Outcome.{◌>>=◌}

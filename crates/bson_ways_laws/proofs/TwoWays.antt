@@ -11,7 +11,7 @@ use Rattle.bson_rawdoc.specs.DocumentTree.{document_pairs}
 use Rattle.bson_rawdoc.specs.Envelope.{envelope}
 use Rattle.bson_rawdoc.specs.Node.{Node, node_in, from_input, from_memory, tree_node}
 use Rattle.bson_faults.specs.declared.raw.Error.{Error}
-use Rattle.bson_shape.specs.Form.{Form, leaf, optional, lossy, human_readable, by_mode, sequence, newtype, unit_structure, map, tuple, tuple_structure, structure, enumeration, reference, definitions, Fields, no_fields, field, Parts, no_parts, part, Content, unit_content, newtype_content, tuple_content, struct_content, Variants, no_variants, variant}
+use Rattle.bson_shape.specs.Form.{Form, optional, lossy, human_readable, by_mode, sequence, newtype, map, tuple, tuple_structure, structure, enumeration, definitions, Fields, no_fields, field, Parts, no_parts, part, Content, unit_content, newtype_content, tuple_content, struct_content, Variants, no_variants, variant}
 use Rattle.bson_shape.specs.Makers.{IsShape}
 use Rattle.bson_values.specs.Marked.{Marked, contents}
 use Rattle.bson_values.specs.Value.{Value, kind_of}
