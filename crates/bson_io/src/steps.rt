@@ -13,8 +13,8 @@ pub struct Tally;
 
 impl Ledger for Tally {}
 
-/// How many steps were taken: how many bytes were appended to an [`Out`](crate::Out), or replaced in one. Nothing else raises it. Contracts
-/// see the number; at run time it has no bytes, and counting costs nothing.
+/// How many steps were taken. Contracts see the number; at run time it has no bytes, and counting
+/// costs nothing.
 #[derive(Drop)]
 pub struct Steps<L: Ledger> {
     count: Count,
@@ -40,14 +40,14 @@ impl<L: Ledger> Steps<L> {
         }
     }
 
-    // One more step, for a byte of an output.
-    pub(crate) fn tick(&mut self)
+    /// One more step.
+    pub fn tick(&mut self)
         ensures { self.new ≡ self.old + 1 }
     {
         self.count = self.count.plus(1);
     }
 
-    // As many more steps, for bytes of an output.
+    /// As many more steps.
     pub(crate) fn tick_all(&mut self, n: usize)
         ensures { self.new ≡ self.old + n }
     {
