@@ -1,8 +1,8 @@
 ghost use Rattle.std.specs.Prelude.{◌≡◌, codes, option_and_then};
-ghost use Rattle.bson.specs.Access.{as_i64, field};
-ghost use Rattle.bson.specs.View.{view};
+ghost use Rattle.bson_datum.specs.Access.{as_i64, field};
+ghost use Rattle.bson_datum.specs.View.{view};
 
-use bson::Datum;
+use crate::bson::Datum;
 
 /// The age of a person.
 pub fn age_of(person: &Datum<'_>) -> Option<i64>

@@ -1,5 +1,5 @@
-use bson::reserved::{Accepted, unwrap};
-use bson::{DateTime, Datum, ElementType, Field, ObjectId, Text, data};
+use crate::bson::reserved::{Accepted, unwrap};
+use crate::bson::{DateTime, Datum, ElementType, Field, ObjectId, Text, data};
 use std::alloc::{AllocError, Global};
 
 /// The value of the document `{_id: ObjectId, at: DateTime}`.

@@ -3,6 +3,7 @@
 #![tactic(auto)]
 
 mod accessors;
+mod bson;
 mod extended;
 mod parts;
 mod printing;

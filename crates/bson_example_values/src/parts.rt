@@ -1,4 +1,4 @@
-use bson::{Bson, Datum, DocumentWriter, Out, Serializer, Steps, Tally, Text, ser};
+use crate::bson::{Bson, Datum, DocumentWriter, Out, Serializer, Steps, Tally, Text, ser};
 use std::alloc::Global;
 
 /// The bytes of the document that a person is written as, field by field.

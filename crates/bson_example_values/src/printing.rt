@@ -1,9 +1,9 @@
 // What the examples return: over the values of a person, documents in memory, and an extended value.
 use crate::accessors::{age_of, first_city};
+use crate::bson::{Bson, DateTime, Document, ObjectId, Shape, from_slice_at, ser, to_vec_at};
 use crate::extended::{event, id_of};
 use crate::parts::{person_by_fields, person_tree_by_fields};
 use crate::trees::{ada, document_bytes, document_of, first_null};
-use bson::{Bson, DateTime, Document, ObjectId, Shape, from_slice_at, ser, to_vec_at};
 use bson_lines::Lines;
 use std::alloc::{AllocError, Global};
 

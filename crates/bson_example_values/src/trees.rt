@@ -1,9 +1,9 @@
 ghost use Rattle.std.specs.Prelude.{◌≡◌, IfOk, Ok, codes, pos};
-ghost use Rattle.bson.specs.BsonView.{pairs_of};
-ghost use Rattle.bson.specs.Encoded.{encoded};
-ghost use Rattle.bson.specs.Tree.{int32, no_pairs, pair, string};
+ghost use Rattle.bson_base.specs.BsonView.{pairs_of};
+ghost use Rattle.bson_base.specs.Encoded.{encoded};
+ghost use Rattle.bson_base.specs.Tree.{int32, no_pairs, pair, string};
 
-use bson::{Bson, Document, EncodeError, RawDocument, raw};
+use crate::bson::{Bson, Document, EncodeError, RawDocument, raw};
 use std::alloc::{AllocError, Global};
 
 /// The document `{name: "Ada", age: 36}`.

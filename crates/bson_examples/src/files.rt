@@ -1,8 +1,8 @@
 ghost use Rattle.std.specs.Prelude.{◌≡◌, [], IfOk};
-ghost use Rattle.bson.specs.Migrating.{migrated, migration_of};
-ghost use Rattle.bson.specs.Settled.{IsSettled};
+ghost use Rattle.bson_migrate_run.specs.Migrating.{migrated, migration_of};
+ghost use Rattle.bson_laws.specs.Settled.{IsSettled};
 
-use bson::{MigrateError, RawDocuments, Shape, lines_of, migrate};
+use crate::bson::{MigrateError, RawDocuments, Shape, lines_of, migrate};
 use std::alloc::Global;
 
 /// The bytes of the longest document of a file. An error is the place where the file is broken.

@@ -3,6 +3,7 @@
 //! compares the lines with those in `stdout`, which come from what the tour says of the examples and from bsonspec.org, version 1.1.
 #![tactic(auto)]
 
+mod bson;
 mod files;
 mod places;
 mod printing;

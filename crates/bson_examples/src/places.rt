@@ -1,4 +1,4 @@
-use bson::{Segment, Shape, de, from_slice_at};
+use crate::bson::{Segment, Shape, de, from_slice_at};
 use std::alloc::{AllocError, Global};
 
 /// What is wrong with the notation of a shape or with a document, in one line; `None` where the document is read.

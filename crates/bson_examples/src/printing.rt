@@ -1,11 +1,11 @@
 // What the examples return: over the document of a person, over the elements of a document, and over files of documents.
+use crate::bson::{Document, Shape};
 use crate::files::{at_shape, longest};
 use crate::raw_documents::total;
 use crate::reading::{age, age_in_memory};
 use crate::recasting::upgraded;
 use crate::shapes::person_shape;
 use crate::writing::{person_bytes, person_document};
-use bson::{Document, Shape};
 use bson_lines::Lines;
 use std::alloc::Global;
 

@@ -1,7 +1,7 @@
 ghost use Rattle.std.specs.Prelude.{IsOk, OnOk};
-ghost use Rattle.bson.specs.Envelope.{envelope};
+ghost use Rattle.bson_rawdoc.specs.Envelope.{envelope};
 
-use bson::{RawBsonRef, RawDocument, raw};
+use crate::bson::{RawBsonRef, RawDocument, raw};
 
 /// The sum of the prices in the bytes of a document such as `{bread: 3, milk: 2}`.
 pub fn total(bytes: &[u8]) -> Result<i64, raw::Error>

@@ -1,7 +1,7 @@
 ghost use Rattle.std.specs.Prelude.{IsOk, OnOk};
-ghost use Rattle.bson.specs.Reads.{reads_document};
+ghost use Rattle.bson_laws.specs.Reads.{reads_document};
 
-use bson::{Document, Shape, de, from_document_at, from_slice_at};
+use crate::bson::{Document, Shape, de, from_document_at, from_slice_at};
 use std::alloc::Global;
 
 /// The age of the person in the bytes of a document such as `{name: "Ada", age: 36}`.

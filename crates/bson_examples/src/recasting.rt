@@ -1,8 +1,8 @@
 ghost use Rattle.std.specs.Prelude.{◌≡◌, IfOk};
-ghost use Rattle.bson.specs.Recast.{recast_of, writes};
-ghost use Rattle.bson.specs.Text.{Bytes};
+ghost use Rattle.bson_tree_recast.specs.Recast.{recast_of, writes};
+ghost use Rattle.bson_kinds.specs.Text.{Bytes};
 
-use bson::{RecastError, Shape, recast};
+use crate::bson::{RecastError, Shape, recast};
 use std::alloc::{AllocError, Global};
 
 /// A document as it is written at a new shape, or as it was where it is refused there.

@@ -1,7 +1,7 @@
 // The examples over refusals and their places.
+use crate::bson::{Shape, from_slice_at};
 use crate::places::{refusal, refused_key};
 use crate::printing::ADA;
-use bson::{Shape, from_slice_at};
 use bson_lines::Lines;
 use std::alloc::Global;
 

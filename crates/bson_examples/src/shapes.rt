@@ -1,7 +1,7 @@
 ghost use Rattle.std.specs.Prelude.{◌≡◌, IfOk, codes};
-ghost use Rattle.bson.specs.Notation.{text};
+ghost use Rattle.bson_shape.specs.Notation.{text};
 
-use bson::{ParseError, Shape};
+use crate::bson::{ParseError, Shape};
 use std::alloc::Global;
 
 /// The shape of a person: a name, an age, and an address that may be missing.

@@ -1,4 +1,4 @@
-use bson::{Datum, Document, Field, Text, ser, to_document_at, to_vec_at};
+use crate::bson::{Datum, Document, Field, Text, ser, to_document_at, to_vec_at};
 use std::alloc::{AllocError, Global};
 
 /// A person, as a value of a struct. The name is borrowed.
