@@ -1,7 +1,7 @@
 use Rattle.std.proofs.Common.{rules}
 use Rattle.bson_traits.specs.Laws.{GivesBack}
 use Rattle.bson_types.proofs.Again.{given_back, reads_back}
-use Rattle.bson_types.proofs.Unrolled.{fits_whole}
+use Rattle.bson_laws.proofs.FitsUnrolled.{fits_whole}
 use Rattle.bson_types.proofs.law.law_round_trip.Goals as goal
 
 pub returns : goal.returns
