@@ -1,6 +1,5 @@
 mod Again
 mod Levels
-mod Unrolled
 mod Written
 mod Enveloped
 mod FromSources
