@@ -162,7 +162,9 @@ pub use Rattle.bson_traits.specs.Sequences
 pub use Rattle.bson_traits.specs.ShapeOf
 pub use Rattle.bson_traits.specs.Structs
 pub use Rattle.bson_type_data.specs.Trees as TypeTrees
+pub use Rattle.bson_traits.specs.Prover.Equal
 pub use Rattle.bson_traits.specs.Prover.ExtendedBack
+pub use Rattle.bson_traits.specs.Prover.InTables
 pub use Rattle.bson_traits.specs.Prover.MapsBack
 pub use Rattle.bson_traits.specs.Prover.OptionsBack
 pub use Rattle.bson_traits.specs.Prover.ScalarsBack
