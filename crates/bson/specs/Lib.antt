@@ -130,8 +130,8 @@ pub use Rattle.bson_met.specs.ScalarView
 pub use Rattle.bson_met.specs.ValueView as MetValueView
 pub use Rattle.bson_texts.specs.ListsMarked
 pub use Rattle.bson_wrapped.specs.Data
-pub use Rattle.bson_raw_builder.specs.Putting as RawPutting
-pub use Rattle.bson_raw_builder.specs.RawValueView
+pub use Rattle.bson_raw_parts.specs.Putting as RawPutting
+pub use Rattle.bson_raw_parts.specs.RawValueView
 pub use Rattle.bson_de_raw.specs.Gives
 pub use Rattle.bson_de_raw.specs.ReadsLossy
 pub use Rattle.bson_de_tree.specs.Options as TreeOptions

@@ -6,9 +6,9 @@ use Rattle.bson_values.specs.ErrorView.{read_fault}
 use Rattle.bson_values.specs.Stop.{stop_view}
 use Rattle.bson_laws.specs.Assembled.{RawBytes}
 use Rattle.bson_laws.proofs.Framed.{IsFramed}
-use Rattle.bson_raw_builder.specs.RawTreeView.{raw_made}
-use Rattle.bson_raw_builder.proofs.BuiltValues.{container_framed, never_refused}
-use Rattle.bson_raw_builder.proofs.values.container_value.Goals as goal
+use Rattle.bson_raw_parts.specs.BuiltView.{raw_made}
+use Rattle.bson_raw_parts.proofs.BuiltValues.{container_framed, never_refused}
+use Rattle.bson_raw_parts.proofs.values.container_value.Goals as goal
 
 pub returns-in_err-document : goal.returns-in_err-document
 returns-in_err-document c = record {

@@ -2,8 +2,8 @@ use Rattle.std.proofs.Common.{Ok, ap, subst, sym}
 use Rattle.bson_base.specs.Tree.{binary}
 use Rattle.bson_base.proofs.Encodings.{old_fault}
 use Rattle.bson_laws.specs.Assembled.{unless, plain}
-use Rattle.bson_raw_builder.specs.Putting.{RefusesFor, with_value}
-use Rattle.bson_raw_builder.proofs.scalars.put_old_binary.Goals as goal
+use Rattle.bson_raw_parts.specs.Putting.{RefusesFor, with_value}
+use Rattle.bson_raw_parts.proofs.scalars.put_old_binary.Goals as goal
 
 pub returns-then-behind-gt-MAX_BINARY : goal.returns-then-behind-gt-MAX_BINARY
 returns-then-behind-gt-MAX_BINARY c =

@@ -17,8 +17,8 @@ use Rattle.bson_laws.specs.FirstKeys.{number_in, byte_in, uint32_in, bytes_in, i
 use Rattle.bson_laws.specs.Judged.{scope_key}
 use Rattle.bson_laws.specs.Wrapped.{tree_if}
 use Rattle.bson_laws.specs.Assembled.{Building, unless, or_bad, plain, one_level, Looked, stays, becomes, looked_tree, scope_of, with_scope, of_body, by_first_key, by_key, built, looked_at, built_pairs, built_trees, after_code, scope_in}
-use Rattle.bson_raw_builder.specs.Putting.{form_of, stands_for}
-use Rattle.bson_raw_builder.specs.RawTreeView.{IsRawless}
+use Rattle.bson_raw_parts.specs.Putting.{form_of, stands_for}
+use Rattle.bson_raw_parts.specs.BuiltView.{IsRawless}
 
 -- ---- values without others in them
 

@@ -5,7 +5,7 @@ use Rattle.bson_values.specs.ByteStrView.{bytes_view}
 use Rattle.bson_values.specs.declared.byte_str.ByteStr.{ByteStr}
 use Rattle.bson_values.specs.declared.byte_str.ByteStr.TheVariants.{Borrowed, Owned}
 use Rattle.bson_laws.specs.Assembled.{RawBytes}
-use Rattle.bson_raw_builder.specs.declared.raw_value.RawValue.{RawValue}
+use Rattle.bson_raw_parts.specs.declared.raw_value.RawValue.{RawValue}
 
 abbrev pub raw_view : RawValue → RawBytes
 raw_view v = record { kind = v.element_type; bytes = bytes_view v.bytes }

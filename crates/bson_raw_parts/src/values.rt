@@ -12,11 +12,11 @@ ghost use Rattle.bson_laws.specs.Assembled.{raw_bytes};
 ghost use Rattle.bson_laws.specs.ReadsRaw.{scoped_code};
 ghost use Rattle.bson_laws.specs.TreeRaw.{built_value};
 ghost use Rattle.bson_met.specs.Gives.{Reaches};
-ghost use Rattle.bson_raw_builder.specs.BodyView.{body_tree};
-ghost use Rattle.bson_raw_builder.specs.RawTreeView.{IsContainer, IsWhole, IsScopedCode, raw_made};
-ghost use Rattle.bson_raw_builder.specs.RawValueView.{raw_view};
+ghost use Rattle.bson_raw_parts.specs.BodyView.{body_tree};
+ghost use Rattle.bson_raw_parts.specs.BuiltView.{IsContainer, IsWhole, IsScopedCode, raw_made};
+ghost use Rattle.bson_raw_parts.specs.RawValueView.{raw_view};
 
-use crate::bodies::Body;
+use crate::body::Body;
 use crate::raw_value::RawValue;
 use bson_datum::{Datum, RawArr, RawDoc};
 use bson_kinds::ElementType;
@@ -32,7 +32,7 @@ const AROUND_CODE: usize = 9;
 // ---- values that are not in their bytes
 
 /// What a first key stands for.
-pub(crate) fn body_value<'x>(alloc: Global, body: Body<'_>) -> Result<Datum<'x>, AllocError>
+pub fn body_value<'x>(alloc: Global, body: Body<'_>) -> Result<Datum<'x>, AllocError>
     ensures { IfOk result (λ d. built_value (body_tree body.entry) ≡ Ok (marked d)) }
 {
     match body {
@@ -88,7 +88,7 @@ fn binary<'x>(alloc: Global, subtype: u8, content: &[u8]) -> Result<Datum<'x>, A
 }
 
 /// A code.
-pub(crate) fn code_value<'x>(alloc: Global, code: &str) -> Result<Datum<'x>, AllocError>
+pub fn code_value<'x>(alloc: Global, code: &str) -> Result<Datum<'x>, AllocError>
     ensures { IfOk result (λ d. built_value (trees.javascript_code code.now) ≡ Ok (marked d)) }
 {
     data::code(alloc, String::from_str(alloc, code)?)
@@ -97,7 +97,7 @@ pub(crate) fn code_value<'x>(alloc: Global, code: &str) -> Result<Datum<'x>, All
 // ---- values in their bytes
 
 /// A document or an array that was built.
-pub(crate) fn container_value<'x>(alloc: Global, built: RawValue<'_>) -> Reading<Datum<'x>>
+pub fn container_value<'x>(alloc: Global, built: RawValue<'_>) -> Reading<Datum<'x>>
     ensures exact { (t : Tree) → IsWhole t → IsContainer (kind t) → raw_view built.entry ≡ raw_bytes t
         → Reaches marked result (Ok (raw_made (kind t) (made (enc t)))) }
 {
@@ -118,7 +118,7 @@ fn in_kind<'x>(element_type: ElementType, document: RawDocumentBuf) -> Datum<'x>
 }
 
 /// A code with a scope that was built, whose text is this.
-pub(crate) fn scoped_value<'x>(alloc: Global, code: &str, bytes: ByteStr<'_>) -> Reading<Datum<'x>>
+pub fn scoped_value<'x>(alloc: Global, code: &str, bytes: ByteStr<'_>) -> Reading<Datum<'x>>
     requires scoped { IsScopedCode code.now (bytes_view bytes) }
     ensures exact { (scope : Pairs) → bytes_view bytes.entry ≡ enc (trees.javascript_code_with_scope code.now scope) → length (bytes_view bytes.entry) ≤ max_bytes
         → Reaches marked result (Ok (scoped_code (made code.now) (made (enc (trees.document scope))))) }

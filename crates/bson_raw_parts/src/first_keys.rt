@@ -1,13 +1,13 @@
 ghost use Rattle.std.specs.Prelude.{◌≡◌};
 ghost use Rattle.bson_values.specs.Wrapper.{of_key};
-ghost use Rattle.bson_raw_builder.specs.FirstKeyView.{said, said_of};
+ghost use Rattle.bson_raw_parts.specs.FirstKeyView.{said, said_of};
 
 use bson_kinds::begins_with_dollar;
 use bson_values::Wrapper;
 
 /// What the first key of a document says of it.
 #[derive(Clone, Copy, Debug, PartialEq, Eq)]
-pub(crate) enum FirstKey {
+pub enum FirstKey {
     /// It becomes what the value of this key stands for.
     Body(Wrapper),
     /// It becomes a code, which may have a scope.
@@ -17,7 +17,7 @@ pub(crate) enum FirstKey {
 }
 
 /// What a first key says.
-pub(crate) fn first_key(key: &str) -> FirstKey
+pub fn first_key(key: &str) -> FirstKey
     ensures { result ≡ said_of (of_key key.now) }
 {
     match wrapper_of(key) {

@@ -28,9 +28,9 @@ use Rattle.bson_laws.specs.TreeRaw.{built_value}
 use Rattle.bson_laws.proofs.Framed.{IsFramed}
 use Rattle.bson_laws.proofs.ReadBack.{enclosed_framed}
 use Rattle.bson_met.specs.Gives.{RefusesAs}
-use Rattle.bson_raw_builder.specs.Putting.{stands_for, body_built, code_built}
-use Rattle.bson_raw_builder.specs.RawTreeView.{IsWhole, IsContainer}
-use Rattle.bson_raw_builder.proofs.Rawless.{plain_is}
+use Rattle.bson_raw_parts.specs.Putting.{stands_for, body_built, code_built}
+use Rattle.bson_raw_parts.specs.BuiltView.{IsWhole, IsContainer}
+use Rattle.bson_raw_parts.proofs.Rawless.{plain_is}
 
 -- ---- what is made
 

@@ -1,5 +1,5 @@
 ghost use Rattle.std.specs.Prelude.{◌≡◌};
-ghost use Rattle.bson_raw_builder.specs.RawValueView.{IsBorrowed};
+ghost use Rattle.bson_raw_parts.specs.RawValueView.{IsBorrowed};
 
 use bson_kinds::ElementType;
 use bson_rawdoc::RawElement;

@@ -3,8 +3,8 @@ use Rattle.std.specs.Prelude.{Option, Some, None}
 use Rattle.bson_values.specs.declared.wrapper.Wrapper.{Wrapper}
 use Rattle.bson_laws.specs.FirstKeys as keys
 use Rattle.bson_laws.specs.FirstKeys.{first_key}
-use Rattle.bson_raw_builder.specs.declared.first_key.FirstKey.{FirstKey}
-use Rattle.bson_raw_builder.specs.declared.first_key.FirstKey.TheVariants.{Body, Code, Ordinary}
+use Rattle.bson_raw_parts.specs.declared.first_keys.FirstKey.{FirstKey}
+use Rattle.bson_raw_parts.specs.declared.first_keys.FirstKey.TheVariants.{Body, Code, Ordinary}
 
 abbrev pub said_by : Wrapper → keys.FirstKey → FirstKey
 said_by w (keys.body form) = Body w

@@ -5,8 +5,8 @@ use Rattle.bson_laws.specs.Datum.{two, wrapped, nameless}
 use Rattle.bson_laws.specs.TreeRaw.{built_value}
 use Rattle.bson_base.specs.Tree as trees
 use Rattle.bson_kinds.specs.Piece.{made}
-use Rattle.bson_raw_builder.proofs.BuiltValues.{made_is, plain_binary, other_binary}
-use Rattle.bson_raw_builder.proofs.values.binary.Goals as goal
+use Rattle.bson_raw_parts.proofs.BuiltValues.{made_is, plain_binary, other_binary}
+use Rattle.bson_raw_parts.proofs.values.binary.Goals as goal
 
 pub returns-then-subtype-eq0 : goal.returns-then-subtype-eq0
 returns-then-subtype-eq0 c = plain_binary c.args.subtype c.args.content.now c.if-subtype-eq0.true ∙ ap Ok (sym c.in_ok-bytes.ensures.datum)

@@ -5,9 +5,9 @@ ghost use Rattle.bson_kinds.specs.Kind.{byte};
 ghost use Rattle.bson_base.specs.Tree as trees;
 ghost use Rattle.bson_base.specs.Tree.{closed_text, le32};
 ghost use Rattle.bson_laws.specs.Assembled.{plain};
-ghost use Rattle.bson_raw_builder.specs.Putting.{Puts, PutsPart, part_expected};
+ghost use Rattle.bson_raw_parts.specs.Putting.{Puts, PutsPart, part_expected};
 
-use crate::refused::refused;
+use crate::refusals::refused;
 use bson_base::{DateTime, Decimal128, Double, MAX_BINARY, ObjectId, Timestamp, has_zero};
 use bson_kinds::ElementType;
 use bson_values::Cause;
@@ -18,7 +18,7 @@ use std::alloc::AllocError;
 const OLD_GENERIC: u8 = 2;
 
 /// Appends a double, by its eight bytes.
-pub(crate) fn put_double(out: &mut Vec<u8>, number: Double) -> Result<ElementType>
+pub fn put_double(out: &mut Vec<u8>, number: Double) -> Result<ElementType>
     ensures { Puts result out.old.items out.new.items (Ok (trees.double number.0)) }
 {
     append(out, &number.0)?;
@@ -26,7 +26,7 @@ pub(crate) fn put_double(out: &mut Vec<u8>, number: Double) -> Result<ElementTyp
 }
 
 /// Appends a string.
-pub(crate) fn put_string(out: &mut Vec<u8>, text: &str) -> Result<ElementType>
+pub fn put_string(out: &mut Vec<u8>, text: &str) -> Result<ElementType>
     ensures { Puts result out.old.items out.new.items (Ok (trees.string text.now)) }
 {
     append_text(out, text)?;
@@ -34,7 +34,7 @@ pub(crate) fn put_string(out: &mut Vec<u8>, text: &str) -> Result<ElementType>
 }
 
 /// Appends a boolean.
-pub(crate) fn put_boolean(out: &mut Vec<u8>, truth: bool) -> Result<ElementType>
+pub fn put_boolean(out: &mut Vec<u8>, truth: bool) -> Result<ElementType>
     ensures { Puts result out.old.items out.new.items (Ok (trees.boolean truth)) }
 {
     append(out, if truth { &[1] } else { &[0] })?;
@@ -42,7 +42,7 @@ pub(crate) fn put_boolean(out: &mut Vec<u8>, truth: bool) -> Result<ElementType>
 }
 
 /// Appends a code without a scope.
-pub(crate) fn put_code(out: &mut Vec<u8>, code: &str) -> Result<ElementType>
+pub fn put_code(out: &mut Vec<u8>, code: &str) -> Result<ElementType>
     ensures { Puts result out.old.items out.new.items (Ok (trees.javascript_code code.now)) }
 {
     append_text(out, code)?;
@@ -50,7 +50,7 @@ pub(crate) fn put_code(out: &mut Vec<u8>, code: &str) -> Result<ElementType>
 }
 
 /// Appends a symbol.
-pub(crate) fn put_symbol(out: &mut Vec<u8>, text: &str) -> Result<ElementType>
+pub fn put_symbol(out: &mut Vec<u8>, text: &str) -> Result<ElementType>
     ensures { Puts result out.old.items out.new.items (Ok (trees.symbol text.now)) }
 {
     append_text(out, text)?;
@@ -59,7 +59,7 @@ pub(crate) fn put_symbol(out: &mut Vec<u8>, text: &str) -> Result<ElementType>
 
 /// Appends a number of 32 bits.
 #[tactic(auto, unfolding(bson_base::specs::Tree::le32))]
-pub(crate) fn put_int32(out: &mut Vec<u8>, number: i32) -> Result<ElementType>
+pub fn put_int32(out: &mut Vec<u8>, number: i32) -> Result<ElementType>
     ensures { Puts result out.old.items out.new.items (Ok (trees.int32 number)) }
 {
     append(out, &number.to_le_bytes())?;
@@ -68,7 +68,7 @@ pub(crate) fn put_int32(out: &mut Vec<u8>, number: i32) -> Result<ElementType>
 
 /// Appends a number of 64 bits.
 #[tactic(auto, unfolding(bson_base::specs::Tree::le64))]
-pub(crate) fn put_int64(out: &mut Vec<u8>, number: i64) -> Result<ElementType>
+pub fn put_int64(out: &mut Vec<u8>, number: i64) -> Result<ElementType>
     ensures { Puts result out.old.items out.new.items (Ok (trees.int64 number)) }
 {
     append(out, &number.to_le_bytes())?;
@@ -77,7 +77,7 @@ pub(crate) fn put_int64(out: &mut Vec<u8>, number: i64) -> Result<ElementType>
 
 /// Appends a time, by its milliseconds.
 #[tactic(auto, unfolding(bson_base::specs::Tree::le64))]
-pub(crate) fn put_date_time(out: &mut Vec<u8>, time: DateTime) -> Result<ElementType>
+pub fn put_date_time(out: &mut Vec<u8>, time: DateTime) -> Result<ElementType>
     ensures { Puts result out.old.items out.new.items (Ok (trees.date_time (millis time))) }
 {
     append(out, &time.timestamp_millis().to_le_bytes())?;
@@ -86,7 +86,7 @@ pub(crate) fn put_date_time(out: &mut Vec<u8>, time: DateTime) -> Result<Element
 
 /// Appends a timestamp: its increment, and then its time.
 #[tactic(auto, unfolding(bson_base::specs::Tree::le32))]
-pub(crate) fn put_timestamp(out: &mut Vec<u8>, timestamp: Timestamp) -> Result<ElementType>
+pub fn put_timestamp(out: &mut Vec<u8>, timestamp: Timestamp) -> Result<ElementType>
     ensures { Puts result out.old.items out.new.items (Ok (trees.timestamp timestamp.time timestamp.increment)) }
 {
     append(out, &timestamp.increment.to_le_bytes())?;
@@ -95,7 +95,7 @@ pub(crate) fn put_timestamp(out: &mut Vec<u8>, timestamp: Timestamp) -> Result<E
 }
 
 /// Appends an ObjectId, by its twelve bytes.
-pub(crate) fn put_object_id(out: &mut Vec<u8>, id: ObjectId) -> Result<ElementType>
+pub fn put_object_id(out: &mut Vec<u8>, id: ObjectId) -> Result<ElementType>
     ensures { Puts result out.old.items out.new.items (Ok (trees.object_id id.0)) }
 {
     append(out, &id.0)?;
@@ -103,7 +103,7 @@ pub(crate) fn put_object_id(out: &mut Vec<u8>, id: ObjectId) -> Result<ElementTy
 }
 
 /// Appends a decimal number, by its sixteen bytes.
-pub(crate) fn put_decimal128(out: &mut Vec<u8>, number: Decimal128) -> Result<ElementType>
+pub fn put_decimal128(out: &mut Vec<u8>, number: Decimal128) -> Result<ElementType>
     ensures { Puts result out.old.items out.new.items (Ok (trees.decimal128 number.0)) }
 {
     append(out, &number.0)?;
@@ -111,11 +111,7 @@ pub(crate) fn put_decimal128(out: &mut Vec<u8>, number: Decimal128) -> Result<El
 }
 
 /// Appends a reference to a document: its namespace, as a text, and its id.
-pub(crate) fn put_db_pointer(
-    out: &mut Vec<u8>,
-    namespace: &str,
-    id: ObjectId,
-) -> Result<ElementType>
+pub fn put_db_pointer(out: &mut Vec<u8>, namespace: &str, id: ObjectId) -> Result<ElementType>
     ensures { Puts result out.old.items out.new.items (Ok (trees.db_pointer namespace.now id.0)) }
 {
     append_text(out, namespace)?;
@@ -124,7 +120,7 @@ pub(crate) fn put_db_pointer(
 }
 
 /// Appends a regular expression, whose parts are refused where they hold a zero character.
-pub(crate) fn put_regular_expression(
+pub fn put_regular_expression(
     out: &mut Vec<u8>,
     pattern: &str,
     options: &str,
@@ -149,7 +145,7 @@ fn put_part(out: &mut Vec<u8>, part: &str) -> Result<()>
 
 /// Appends a binary, which is refused where it has more bytes than one of its subtype may.
 #[tactic(auto, using(std::proofs::lemmas::Bool::Decides::nat_tests))]
-pub(crate) fn put_binary(out: &mut Vec<u8>, subtype: u8, bytes: &[u8]) -> Result<ElementType>
+pub fn put_binary(out: &mut Vec<u8>, subtype: u8, bytes: &[u8]) -> Result<ElementType>
     ensures { Puts result out.old.items out.new.items (plain (trees.binary subtype bytes.now)) }
 {
     if subtype == OLD_GENERIC {
@@ -183,7 +179,7 @@ fn put_old_binary(out: &mut Vec<u8>, bytes: &[u8]) -> Result<ElementType>
 // ---- bytes
 
 /// Appends a text: its length, its bytes, a zero.
-pub(crate) fn append_text(out: &mut Vec<u8>, text: &str) -> std::result::Result<(), AllocError>
+pub fn append_text(out: &mut Vec<u8>, text: &str) -> std::result::Result<(), AllocError>
     ensures { OnOk result (out.new.items ≡ out.old.items ++ closed_text text.now) }
 {
     append(out, &length_bytes(text.len() + 1))?;
@@ -191,7 +187,7 @@ pub(crate) fn append_text(out: &mut Vec<u8>, text: &str) -> std::result::Result<
 }
 
 /// Appends a text and a zero.
-pub(crate) fn append_closed(out: &mut Vec<u8>, text: &str) -> std::result::Result<(), AllocError>
+pub fn append_closed(out: &mut Vec<u8>, text: &str) -> std::result::Result<(), AllocError>
     ensures { OnOk result (out.new.items ≡ out.old.items ++ (text.now ++ 0 ∷ [])) }
 {
     append(out, text.as_bytes())?;
@@ -200,14 +196,14 @@ pub(crate) fn append_closed(out: &mut Vec<u8>, text: &str) -> std::result::Resul
 
 /// Appends bytes.
 #[inline(always)]
-pub(crate) fn append(out: &mut Vec<u8>, piece: &[u8]) -> std::result::Result<(), AllocError>
+pub fn append(out: &mut Vec<u8>, piece: &[u8]) -> std::result::Result<(), AllocError>
     ensures { OnOk result (out.new.items ≡ out.old.items ++ piece.now) }
 {
     out.extend_from_slice(piece)
 }
 
 /// Writes how many bytes there are from a place on into the first four of them.
-pub(crate) fn set_length(out: &mut Vec<u8>, start: usize)
+pub fn set_length(out: &mut Vec<u8>, start: usize)
     requires { start + 4 ≤ length out.old.items }
     ensures { out.new.items ≡ take start out.old.items ++ (le32 (length out.old.items - start) ++ drop (start + 4) out.old.items) }
 {
@@ -216,7 +212,7 @@ pub(crate) fn set_length(out: &mut Vec<u8>, start: usize)
 }
 
 /// Writes the byte of a kind over the byte at a place.
-pub(crate) fn set_kind(out: &mut Vec<u8>, place: usize, kind: ElementType)
+pub fn set_kind(out: &mut Vec<u8>, place: usize, kind: ElementType)
     requires { place < length out.old.items }
     ensures { out.new.items ≡ take place out.old.items ++ (byte kind ∷ drop (place + 1) out.old.items) }
 {

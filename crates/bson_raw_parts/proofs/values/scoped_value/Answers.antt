@@ -7,8 +7,8 @@ use Rattle.bson_values.specs.ErrorView.{read_fault}
 use Rattle.bson_values.specs.Stop.{stop_view}
 use Rattle.bson_laws.specs.ReadsRaw.{scoped_code}
 use Rattle.bson_laws.proofs.Framed.{IsFramed}
-use Rattle.bson_raw_builder.proofs.BuiltValues.{scope_begins, scope_bytes, scope_framed, never_refused}
-use Rattle.bson_raw_builder.proofs.values.scoped_value.Goals as goal
+use Rattle.bson_raw_parts.proofs.BuiltValues.{scope_begins, scope_bytes, scope_framed, never_refused}
+use Rattle.bson_raw_parts.proofs.values.scoped_value.Goals as goal
 
 pub behind_code-requires : goal.behind_code-requires
 behind_code-requires c =

@@ -2,8 +2,8 @@
 use Rattle.bson_base.specs.Instant.{millis}
 use Rattle.bson_base.specs.Tree as tree
 use Rattle.bson_base.specs.Tree.{Tree}
-use Rattle.bson_raw_builder.specs.declared.bodies.Body.{Body}
-use Rattle.bson_raw_builder.specs.declared.bodies.Body.TheVariants.{ObjectId, Symbol, Decimal128, RegularExpression, Undefined, Binary, DateTime, Timestamp, MinKey, MaxKey, DbPointer}
+use Rattle.bson_raw_parts.specs.declared.body.Body.{Body}
+use Rattle.bson_raw_parts.specs.declared.body.Body.TheVariants.{ObjectId, Symbol, Decimal128, RegularExpression, Undefined, Binary, DateTime, Timestamp, MinKey, MaxKey, DbPointer}
 
 abbrev pub body_tree : Body → Tree
 body_tree (ObjectId id) = tree.object_id id.0

@@ -13,7 +13,7 @@ use Rattle.bson_laws.specs.Trees.{document_tree}
 use Rattle.bson_met.specs.Gives.{RefusesAs}
 use Rattle.bson_laws.specs.FirstKeys.{id_in}
 use Rattle.bson_raw_builder.proofs.ReadIds.{document_free, read_given, refused_id}
-use Rattle.bson_raw_builder.proofs.forms.id_of_document.Goals as goal
+use Rattle.bson_raw_builder.proofs.ids.id_of_document.Goals as goal
 
 pub returns-in-Ok : goal.returns-in-Ok
 returns-in-Ok c =

@@ -9,7 +9,7 @@ use bson_values::{Cause, Wrapper};
 /// A value is refused for this cause; no path is said.
 #[cold]
 #[inline(never)]
-pub(crate) fn refused(cause: Cause) -> Error
+pub fn refused(cause: Cause) -> Error
     ensures { read_failure result ≡ bare (unreadable (cause_view cause)) }
 {
     Error::DeserializationError { cause }
@@ -18,7 +18,7 @@ pub(crate) fn refused(cause: Cause) -> Error
 /// The value of this first key has not the form.
 #[cold]
 #[inline(never)]
-pub(crate) fn bad_body(wrapper: Wrapper) -> Error
+pub fn bad_body(wrapper: Wrapper) -> Error
     ensures { read_failure result ≡ bare (unreadable (bad_body wrapper)) }
 {
     refused(Cause::BadBody(wrapper))
