@@ -140,8 +140,8 @@ pub use Rattle.bson_ser_parts.specs.Documents as PartsOfDocuments
 pub use Rattle.bson_ser_parts.specs.Pairs as PartsOfPairs
 pub use Rattle.bson_ser_parts.specs.Taking as PartsTaken
 pub use Rattle.bson_ser_parts.specs.Variants as PartsOfVariants
-pub use Rattle.bson_ser_value.specs.Values as PartsOfValues
-pub use Rattle.bson_fronts.specs.Fronts as FirstFields
+pub use Rattle.bson_ser_parts.specs.Values as PartsOfValues
+pub use Rattle.bson_ser_parts.specs.Fronts as FirstFields
 pub use Rattle.bson_tree_laws.specs.Alike
 pub use Rattle.bson_tree_laws.specs.TreeSpell
 pub use Rattle.bson_ser_tree.specs.Answers as TreeAnswers
