@@ -4,7 +4,7 @@ use Rattle.std.specs.Prelude.{OnOk, if◌then◌else◌}
 use Rattle.bson_kinds.specs.Text.{Utf8, has_zero}
 use Rattle.bson_kinds.specs.Outcome.{◌>>=◌, result_map}
 use Rattle.bson_base.specs.Tree.{Tree, Pairs, pair, tree}
-use Rattle.bson_values.specs.Refusal.{Refusal, WriteFault, Segment, at_index, invalid_cstring, here, inside, under, under_index}
+use Rattle.bson_values.specs.Refusal.{Refusal, WriteFault, Segment, at_key, at_index, invalid_cstring, here, inside, under, under_index}
 use Rattle.bson_values.specs.Value.{Value, Items, item, Entries, entry, FieldValues, field_value, no_field_values}
 use Rattle.bson_laws.specs.Spell.{Writing, named, spell_as, spell_items_as, spell_key, spell_entries_as, spell_fields_as}
 use Rattle.bson_ser_stream.specs.Writing.{places, pair_places, tree_places, count_of}
@@ -35,7 +35,7 @@ named_places name r = by (has_zero name)
   where
     by : (b : Bool) → count_of places (if b then Err (here (invalid_cstring name)) else under name r) ≤ count_of places r
     by true = omega arith
-    by false = omega (arith, inside_places _ r)
+    by false = omega (arith, inside_places (at_key name) r)
 
 pub field_places : (readable : Bool) (name : Utf8) (v : Value) (rest : FieldValues) (levels : ℕ)
     → count_of pair_places (spell_fields_as readable (field_value name v rest) levels) ≤ count_of places (spell_as readable v levels) + 1 + count_of pair_places (spell_fields_as readable rest levels)
@@ -44,7 +44,7 @@ field_places readable name v rest levels =
     omega (arith, joined_places pair_places (pair name) (named name r) (spell_fields_as readable rest levels) (λ t ps. refl), named_places name r)
 
 keyed_places : (k : Writing Utf8) (r : Writing Tree) (s : Writing Pairs) → count_of pair_places (k >>= λ key. under key r >>= λ t. s >>= λ ps. Ok (pair key t ps)) ≤ count_of places r + 1 + count_of pair_places s
-keyed_places (Ok key) r s = omega (arith, joined_places pair_places (pair key) (under key r) s (λ t ps. refl), inside_places _ r)
+keyed_places (Ok key) r s = omega (arith, joined_places pair_places (pair key) (under key r) s (λ t ps. refl), inside_places (at_key key) r)
 keyed_places (Err f) r s = omega arith
 
 pub entry_places : (readable : Bool) (key v : Value) (rest : Entries) (levels : ℕ)

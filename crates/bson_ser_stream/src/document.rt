@@ -107,7 +107,7 @@ pub fn to_buf<L: Ledger>(value: &Datum<'_>, out: &mut Out, steps: &mut Steps<L>)
     // Each byte that is appended, and each that is written over the place of a kind or a length, is a step.
     ensures counted { OnOk result
         (steps.old + (length out.new.bytes - length out.old.bytes) + count_of places (spell_document (view value.now))
-            ≤ steps.new) }
+        ≤ steps.new) }
     ensures steps { OnOk result
         (steps.new ≤ steps.old + 2 * (length out.new.bytes - length out.old.bytes)) }
 {
