@@ -130,8 +130,8 @@ pub use Rattle.bson_met.specs.ScalarView
 pub use Rattle.bson_met.specs.ValueView as MetValueView
 pub use Rattle.bson_texts.specs.ListsMarked
 pub use Rattle.bson_wrapped.specs.Data
-pub use Rattle.bson_raw_builder.specs.Putting as RawPutting
-pub use Rattle.bson_raw_builder.specs.RawValueView
+pub use Rattle.bson_raw_parts.specs.Putting as RawPutting
+pub use Rattle.bson_raw_parts.specs.RawValueView
 pub use Rattle.bson_de_raw.specs.Gives
 pub use Rattle.bson_de_raw.specs.ReadsLossy
 pub use Rattle.bson_de_tree.specs.Options as TreeOptions
@@ -162,7 +162,9 @@ pub use Rattle.bson_traits.specs.Sequences
 pub use Rattle.bson_traits.specs.ShapeOf
 pub use Rattle.bson_traits.specs.Structs
 pub use Rattle.bson_type_data.specs.Trees as TypeTrees
+pub use Rattle.bson_traits.specs.Prover.Equal
 pub use Rattle.bson_traits.specs.Prover.ExtendedBack
+pub use Rattle.bson_traits.specs.Prover.InTables
 pub use Rattle.bson_traits.specs.Prover.MapsBack
 pub use Rattle.bson_traits.specs.Prover.OptionsBack
 pub use Rattle.bson_traits.specs.Prover.ScalarsBack
