@@ -1,4 +1,4 @@
-use Rattle.std.proofs.Common.{◌≡◌, ◌≤◌, ◌-◌, ◌++◌, ◌∙◌, length, ap, arith, append_assoc}
+use Rattle.std.proofs.Common.{◌≡◌, ◌≤◌, ◌-◌, ◌++◌, ◌∙◌, length, ap, refl, arith, append_assoc}
 use Rattle.std.proofs.lemmas.List.{length-append}
 use Rattle.bson_ser_stream.specs.Binary.{behind_length, binary_front}
 use Rattle.bson_ser_stream.proofs.Base64Binaries.{spell_decoded, decoded_shorter, decoded_short, decoded_fault}

@@ -1,4 +1,4 @@
-use Rattle.std.proofs.Common.{◌≤◌, ◌++◌, ◌∙◌, length, ap, arith, append_assoc}
+use Rattle.std.proofs.Common.{◌≤◌, ◌++◌, ◌∙◌, length, ap, refl, arith, append_assoc}
 use Rattle.bson_ser_stream.specs.Binary.{behind_length, binary_front}
 use Rattle.bson_ser_stream.proofs.Binaries.{front_and_bytes, length-written, spells, spells_too_long, binary_fits}
 use Rattle.bson_ser_stream.proofs.Growth.{Grows-trans, Grows-appended}

@@ -1,4 +1,4 @@
-use Rattle.std.proofs.Common.{length, ap, arith}
+use Rattle.std.proofs.Common.{length, ap, refl, arith}
 use Rattle.bson_base.specs.Sorted.{sorted}
 use Rattle.bson_base.proofs.Lengths.{length-regular_expression}
 use Rattle.bson_ser_stream.proofs.Expressions.{length-sorted, spells_expression, wrote_expression}
