@@ -7,12 +7,12 @@ ghost use Rattle.bson_datum.specs.View.{view};
 ghost use Rattle.bson_io.specs.contracts.out.Out.{the_row};
 ghost use Rattle.bson_ser_parts.specs.Taking.{AnswersFailed, AnswersBadStep};
 
-use crate::owned::push_owned;
-use bson_datum::{Datum, Field, MAX_NESTING_LEVEL};
 use crate::fronts::begins;
+use crate::owned::push_owned;
+use crate::refusal::{failed_before, refused_for, take_back};
+use bson_datum::{Datum, Field, MAX_NESTING_LEVEL};
 use bson_io::{Ledger, Out, Steps};
 use bson_kinds::{ElementType, reserved_kind};
-use crate::refusal::{failed_before, refused_for, take_back};
 use bson_ser_stream::put_reserved;
 use bson_values::Cause;
 use bson_values::ser::{Error, Result};
