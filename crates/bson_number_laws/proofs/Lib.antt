@@ -1,0 +1,4 @@
+pub mod TameTrees
+pub mod Numbers
+pub mod GivenNumbers
+pub mod RawNumbers
