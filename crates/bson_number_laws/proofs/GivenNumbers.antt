@@ -1,10 +1,10 @@
 -- What leaves give of a value of a tree in memory.
-use Rattle.std.proofs.Common.{◌≡◌, ℕ, pos, zero, suc, refl, sym, subst}
+use Rattle.std.proofs.Common.{pos, zero, suc, sym, subst}
 use Rattle.bson_base.specs.Tree as tree
 use Rattle.bson_base.specs.Tree.{Tree, Pairs, no_pairs, pair, Trees, no_trees}
 use Rattle.bson_values.specs.Value as value
 use Rattle.bson_values.specs.Value.{i32, i64, Value, Items, no_items, item, Entries, no_entries, entry}
-use Rattle.bson_laws.specs.Datum.{datum, uuid_datum, itself, pair_data, tree_data}
+use Rattle.bson_laws.specs.Datum.{datum, itself, pair_data, tree_data}
 use Rattle.bson_laws.specs.Leaves as leaf_kinds
 use Rattle.bson_laws.specs.Leaves.{LeafKind, anything, ignored, booleans, numbers, doubles, characters, texts, byte_strings, byte_buffers, units, ExtendedLeaf, object_ids, uuids, of_kind, documents, extended_values, raw_documents, raw_arrays, raw_values}
 use Rattle.bson_laws.proofs.Given.{IsGivenText, IsGivenAny, AreGivenItems, AreGivenEntries, IsGivenLeaf}

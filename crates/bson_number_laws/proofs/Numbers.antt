@@ -23,7 +23,7 @@ use Rattle.bson_tree_laws.specs.TreeSpell.{tree_uuid, tree_key, tree_read, tree_
 
 -- ---- steps
 
-bound : {A B : Type 0} (r : Writing A) (f : A → Writing B) → HoldsNumbers r → ((x : A) → HoldsNumbers (f x)) → HoldsNumbers (r >>= f)
+pub bound : {A B : Type 0} (r : Writing A) (f : A → Writing B) → HoldsNumbers r → ((x : A) → HoldsNumbers (f x)) → HoldsNumbers (r >>= f)
 bound (Ok x) f w h = h x
 bound (Err e) f w h = w
 

@@ -1,14 +1,13 @@
 -- What is read of a tree in memory at a shape holds no number that no Int64 holds.
-use Rattle.std.proofs.Common.{◌≡◌, ℕ, suc, [], ◌∷◌, Bool, true, false, cond, Option, Some, None, Ok, refl, ap, sym, subst, ◌∙◌}
+use Rattle.std.proofs.Common.{◌≡◌, ℕ, suc, [], ◌∷◌, Bool, true, false, cond, Option, Some, None, Ok, refl, sym, subst}
 use Rattle.std.specs.Str.{bytes_eq, chars}
 use Rattle.bson_kinds.specs.Outcome.{◌>>=◌, result_map}
-use Rattle.bson_kinds.specs.Kind.{byte}
 use Rattle.bson_kinds.specs.Piece.{Piece, made}
 use Rattle.bson_kinds.specs.Text.{Utf8}
 use Rattle.bson_kinds.specs.declared.element_type.ElementType.{ElementType}
 use Rattle.bson_kinds.specs.declared.element_type.ElementType.TheVariants as kinds
 use Rattle.bson_kinds.proofs.Apart.{no_ok}
-use Rattle.bson_kinds.proofs.Outcomes.{some_is, ok_is, map_ok, bind_ok}
+use Rattle.bson_kinds.proofs.Outcomes.{ok_is, map_ok, bind_ok}
 use Rattle.bson_base.specs.Tree.{Tree, kind, enc}
 use Rattle.bson_rawdoc.specs.Node as node
 use Rattle.bson_rawdoc.specs.Node.{Node, Nodes, ended, faulty, then_node, from_memory}
@@ -23,8 +22,8 @@ use Rattle.bson_values.specs.Value.{readable_newtype, no_items, item, no_entries
 use Rattle.bson_laws.specs.declared.origin.Origin.TheVariants as origins
 use Rattle.bson_laws.specs.Containers.{reads_items, reads_next, unit_of, reads_key, reads_entries, reads_option}
 use Rattle.bson_laws.specs.FromTree.{tree_unit_of, reads_tree_unit, read_only, read_tree_enum, tuple_content_at, struct_content_at}
-use Rattle.bson_laws.specs.Judged.{Reading, refused, judged, passes}
-use Rattle.bson_laws.specs.Leaves.{LeafKind, anything, ignored, booleans, numbers, doubles, characters, texts, byte_strings, byte_buffers, units, extended_values, trees, raw_documents, raw_arrays, raw_values, leaf_kind}
+use Rattle.bson_laws.specs.Judged.{Reading, refused, judged}
+use Rattle.bson_laws.specs.Leaves.{LeafKind, anything, ignored, characters, texts, byte_strings, byte_buffers, extended_values, trees, raw_documents, raw_arrays, raw_values, leaf_kind}
 use Rattle.bson_laws.specs.ReadsExtended.{read_extended}
 use Rattle.bson_laws.specs.ReadsFrom.{reads_from, reads_parts, slots_of, reads_variant, reads_content}
 use Rattle.bson_laws.specs.ReadsLeaf.{borrows, put_entry, no_extended, read_leaf_with}
