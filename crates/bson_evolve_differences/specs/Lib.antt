@@ -1,6 +1,6 @@
 pub mod Reasons
-pub mod Apart
-pub mod Walk
+pub mod Mismatch
+pub mod Differences
 pub mod Reached
 pub mod Views
 pub mod Printed

@@ -7,7 +7,7 @@ use Rattle.bson_evolve_check.specs.Checks.{ArePlain}
 use Rattle.bson_evolve_check.specs.declared.checking.CheckError.{CheckError}
 use Rattle.bson_evolve_check.specs.declared.checking.CheckError.TheVariants.{OldNotPlain, NewNotPlain, NoMemory}
 use Rattle.bson_evolve_differences.specs.Views.{differences_view}
-use Rattle.bson_evolve_differences.specs.Walk.{AreDifferences}
+use Rattle.bson_evolve_differences.specs.Differences.{AreDifferences}
 use Rattle.bson_evolve_differences.specs.declared.difference.Difference.{Difference}
 
 -- What is answered: the differences where both shapes are plain, unless memory runs out, and else which is not.

@@ -4,7 +4,7 @@ use Rattle.bson_shape.specs.Form.{Form}
 use Rattle.bson_values.specs.Refusal.{Path}
 use Rattle.bson_evolve_laws.specs.First.{start, PendingPair}
 use Rattle.bson_evolve_differences.specs.Reasons.{Reason}
-use Rattle.bson_evolve_differences.specs.Walk.{difference, reached, reasons, told, Difference}
+use Rattle.bson_evolve_differences.specs.Differences.{difference, differences_at, reached, reasons, Difference}
 
 -- it is one of these
 abbrev pub IsIn : {A : Type 0} → A → List A → Type 0
@@ -21,7 +21,7 @@ IsReached old new d = (n : ℕ) × ReachedIn n old new d
 
 -- Each of them is a difference of a pair that is reached, on a path to it.
 abbrev pub AreOfReached : (old new : Form) → List Difference → Type 0
-AreOfReached old new ds = (e : Difference) → IsIn e ds → (d : PendingPair) × IsReached old new d × IsIn e (told d)
+AreOfReached old new ds = (e : Difference) → IsIn e ds → (d : PendingPair) × IsReached old new d × IsIn e (differences_at d)
 
 -- Each reason of each pair that is reached is told, on some path to the pair.
 abbrev pub TellEach : (old new : Form) → List Difference → Type 0

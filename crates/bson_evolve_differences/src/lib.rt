@@ -1,19 +1,19 @@
-//! Why documents that are written at one shape need not be read at another: each pair of parts that no row of compatibility lets pass, with a reason.
+//! Why documents that are written at one shape need not be read at another: each pair of parts that passes no row of compatibility, with a reason.
 #![tactic(auto)]
 
-ghost use Rattle.bson_shape.specs.Form.{Form};
 ghost use Rattle.std.specs.Prelude.{List};
+ghost use Rattle.bson_shape.specs.Form.{Form};
+ghost use Rattle.bson_evolve_differences.specs.Differences.{AreDifferences, BeginsWithFault, Difference};
 ghost use Rattle.bson_evolve_differences.specs.Reached.{AreOfReached, TellEach};
-ghost use Rattle.bson_evolve_differences.specs.Walk.{AreDifferences, BeginsWithFault, Difference};
 
-mod common;
+mod comparing;
 mod difference;
-mod differing;
-mod reasons;
-mod walking;
+mod mismatch;
+mod reason;
+mod search;
 
+pub use comparing::differences;
 pub use difference::{Difference, Reason};
-pub use differing::differences;
 
 /// The differences of two shapes are those of the pairs that are reached from them: each is of such a pair, on a path to it, and each reason of each such pair is told.
 /// There are none where the shapes are compatible; else the first one is at the path where `check` says no.

@@ -1,21 +1,21 @@
 ghost use Rattle.std.specs.Prelude.{IfOk};
 ghost use Rattle.bson_evolve_check.specs.Checks.{ArePlain};
+ghost use Rattle.bson_evolve_differences.specs.Differences.{AreDifferences, BeginsWithFault};
 ghost use Rattle.bson_evolve_differences.specs.Lists.{Lists};
 ghost use Rattle.bson_evolve_differences.specs.Views.{differences_view};
-ghost use Rattle.bson_evolve_differences.specs.Walk.{AreDifferences, BeginsWithFault};
 
 use crate::difference::Difference;
-use crate::walking::all_differences;
+use crate::search::all_differences;
 use bson_evolve_check::{CheckError, is_plain};
 use bson_shape::Shape;
 use std::alloc::{AllocError, Global};
 
-/// Each pair of parts that is reached from two shapes and passes no row of the table of compatibility, in depth-first order, with the path to it.
+/// Each pair of parts that is reached from two shapes and passes no row of the table of compatibility, in depth-first order, with a reason.
 ///
 /// There is one exactly where `check` of `bson_evolve_check` says no, and the first is at its path. The search goes on where `check` stops: two structs that do not pass
-/// give one difference for each field that is missing or refused, and two enums one for each variant and each missing field of a variant; what both have in common is
-/// entered all the same. Nothing in other parts that do not pass is entered. Each pair is entered once, on the first way to it; pairs, paths and costs are those of `check`,
-/// and each difference holds the notation of its parts.
+/// give one difference for each field that is missing or refused, and two enums one for each variant that is missing or has other content and for each missing field of
+/// a variant; what both have in common is compared all the same. Nothing inside other parts that do not pass is. Each pair is entered once, on the first way to it. Pairs,
+/// paths and costs are those of `check`, and each difference holds the notation of both parts.
 ///
 /// # Errors
 ///

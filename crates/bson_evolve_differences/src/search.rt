@@ -2,18 +2,18 @@
 ghost use Rattle.std.specs.Prelude.{◌≡◌, ◌++◌, map, reverse, length, IfOk, List, OnOk};
 ghost use Rattle.bson_shape.specs.Form.{leaf};
 ghost use Rattle.bson_shape.specs.declared.leaf.Leaf.TheVariants.{Bson};
-ghost use Rattle.bson_evolve_laws.specs.Rows as rows;
 ghost use Rattle.bson_evolve_check.specs.Checks.{ArePlain};
-ghost use Rattle.bson_evolve_check.specs.Searching.{pending_at, pending_of};
+ghost use Rattle.bson_evolve_check.specs.Searching.{pending_at, pending_of, route_path};
 ghost use Rattle.bson_evolve_check.specs.Steps.{steps_view};
 ghost use Rattle.bson_evolve_check.specs.declared.step.Step.{Step as StepView};
-ghost use Rattle.bson_evolve_differences.specs.Views.{differences_view, told_at};
-ghost use Rattle.bson_evolve_differences.specs.Walk.{steps, reasons, AreDifferences};
+ghost use Rattle.bson_evolve_differences.specs.Differences.{difference, reasons, steps, AreDifferences};
+ghost use Rattle.bson_evolve_differences.specs.Views.{differences_view, reasons_view};
 
-use crate::common::common_steps;
-use crate::difference::Difference;
-use crate::reasons::{At, push_reasons};
-use bson_evolve_check::{Entry, Parts, Step, Waiting, Way, next_unmet, push_steps, row_of, start};
+use crate::difference::{Difference, Reason};
+use crate::mismatch::mismatch_of;
+use bson_evolve_check::{
+    Entry, Parts, Waiting, Way, next_unmet, path_of, push_steps, row_of, start,
+};
 use bson_shape::Shape;
 use std::alloc::{AllocError, Global};
 use std::collections::BTreeSet;
@@ -50,7 +50,7 @@ pub(crate) fn all_differences<'s>(
     Ok(found)
 }
 
-// A pair is entered, at the end of the route: why it does not pass is told, and the pairs that are reached from it are to be entered next.
+// A pair is entered, at the end of the route: its differences are found, and the pairs that are reached from it are to be entered next.
 fn enter<'s>(
     alloc: Global,
     waiting: &mut Vec<Waiting<'s>>,
@@ -60,37 +60,44 @@ fn enter<'s>(
     bson: &'s Shape,
 ) -> Result<(), AllocError>
     requires { bson.now ≡ leaf Bson }
-    ensures found { OnOk result (differences_view found.new.items ≡ differences_view found.old.items ++ map (told_at (record { route = route.entry; old = next.entry.pending.old.shape; new = next.entry.pending.new.shape })) (reasons next.entry.pending.old.shape.now next.entry.pending.new.shape.now)) }
+    ensures found { let old = next.entry.pending.old.shape.now in let new = next.entry.pending.new.shape.now in
+        OnOk result (differences_view found.new.items ≡ differences_view found.old.items ++ map (difference (route_path route.now) old new) (reasons old new)) }
     ensures waiting { OnOk result ((ss : List StepView) × (steps_view ss ≡ steps next.entry.pending.old.shape.now next.entry.pending.new.shape.now)
         × (pending_of waiting.new.items ≡ pending_of waiting.old.items ++ reverse (map (pending_at (length route.now) next.entry.pending.old.table next.entry.pending.new.table) ss))) }
 {
-    let at = At {
-        route,
-        old: next.pending.old.shape,
-        new: next.pending.new.shape,
-    };
-    let steps = steps_from(alloc, found, at, bson)?;
-    push_steps(waiting, route.len(), next, steps)?;
-    Ok(())
-}
-
-// The pairs that are reached from a pair. Why it does not pass is told.
-fn steps_from<'r, 's>(
-    alloc: Global,
-    found: &mut Vec<Difference>,
-    at: At<'r, 's>,
-    bson: &'s Shape,
-) -> Result<Vec<Step<'s>>, AllocError>
-    requires { bson.now ≡ leaf Bson }
-    ensures found { OnOk result (differences_view found.new.items ≡ differences_view found.old.items ++ map (told_at at.entry) (reasons at.entry.old.now at.entry.new.now)) }
-    ensures steps { IfOk result (λ v. steps_view v.items ≡ steps at.entry.old.now at.entry.new.now) }
-{
-    match row_of(alloc, at.old, at.new, bson)? {
-        Some(steps) => Ok(steps),
+    let old = next.pending.old.shape;
+    let new = next.pending.new.shape;
+    match row_of(alloc, old, new, bson)? {
+        Some(steps) => push_steps(waiting, route.len(), next, steps),
         None => {
-            push_reasons(alloc, at, found)?;
-            let steps = common_steps(alloc, at.old, at.new)?;
-            Ok(steps)
+            let mismatch = mismatch_of(alloc, old, new)?;
+            push_differences(alloc, found, route, old, new, mismatch.reasons)?;
+            push_steps(waiting, route.len(), next, mismatch.common)
         }
     }
+}
+
+// A difference of the pair at the end of the route for each of these reasons.
+fn push_differences(
+    alloc: Global,
+    found: &mut Vec<Difference>,
+    route: &[Way<'_>],
+    old: &Shape,
+    new: &Shape,
+    reasons: Vec<Reason>,
+) -> Result<(), AllocError>
+    ensures { OnOk result (differences_view found.new.items ≡ differences_view found.old.items ++ map (difference (route_path route.now) old.now new.now) (reasons_view reasons.entry.items)) }
+{
+    for reason in reasons {
+        let path = path_of(alloc, route)?;
+        let old = old.print(alloc)?;
+        let new = new.print(alloc)?;
+        found.push(Difference {
+            path,
+            old,
+            new,
+            reason,
+        })?;
+    }
+    Ok(())
 }
