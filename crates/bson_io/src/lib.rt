@@ -1,8 +1,10 @@
-//! Where bytes come from and where they go: sources and sinks with a count of their faults, an
-//! output buffer whose bytes can be patched, and a counter of steps that takes no room at run time.
+//! Where bytes come from and where they go: sources and sinks with a count of their faults, a
+//! source that reads in large pieces, an output buffer whose bytes can be patched, and a counter of
+//! steps that takes no room at run time.
 #![tactic(auto)]
 
 mod adapters;
+mod buffered;
 mod copy;
 mod count;
 mod ends;
@@ -13,6 +15,7 @@ mod steps;
 mod transfer;
 
 pub use adapters::{ReadAdapter, WriteAdapter};
+pub use buffered::Buffered;
 pub use ends::{Failed, Sink, Source};
 pub use memory::{MemorySink, MemorySource};
 pub use out::Out;

@@ -546,7 +546,7 @@ module _ (at_extended : ExtendedLeaf → Node → Reading Marked)
   abbrev reads_content : Utf8 → Content → Node → Reading Marked
   reads_content = shaped.reads_content at_extended
 
-  leaf_given : (at : Sight) (l : Bool) (k : LeafKind) (n m : Node) (v : Marked) → tame.IsTame at n → judged n ≡ Ok m → read_leaf_with at_extended l k n ≡ Ok v → LeafGiven at k v
+  pub leaf_given : (at : Sight) (l : Bool) (k : LeafKind) (n m : Node) (v : Marked) → tame.IsTame at n → judged n ≡ Ok m → read_leaf_with at_extended l k n ≡ Ok v → LeafGiven at k v
   leaf_given at l anything n m v t j e = any_given at n m v t j e
   leaf_given at l ignored n m v t j e = let r = map_ok (λ _. value.unit) (passes n) v e in subst (LeafGiven at ignored) r.2 tt
   leaf_given at l booleans n m v t j e = let r = map_ok value.boolean (boolean_of n) v e in subst (LeafGiven at booleans) r.2 tt

@@ -271,7 +271,7 @@ raw_signed v (a_tree t, f, is) = subst AreSigned (sym is) (by_whole (λ u. AreSi
 raw_signed v (a_binary n b, f, is) = subst AreSigned (sym is) ((tt, (word_small n (omega (arith, f)), tt)), tt)
 raw_signed v (a_code code scope, f, is) = subst AreSigned (sym is) (tt, (tt, tt))
 
-leaf_signed : (k : LeafKind) (v : Value) → IsGivenLeaf k v → AreSigned v
+pub leaf_signed : (k : LeafKind) (v : Value) → IsGivenLeaf k v → AreSigned v
 leaf_signed anything v g = any_signed v g
 leaf_signed ignored value.unit g = tt
 leaf_signed booleans (value.boolean b) g = tt
