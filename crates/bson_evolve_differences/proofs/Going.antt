@@ -4,7 +4,7 @@ use Rattle.std.specs.Prelude.{option_map}
 use Rattle.std.proofs.lemmas.List.{append-nil, append_assoc}
 use Rattle.bson_shape.specs.Form.{Form}
 use Rattle.bson_evolve_laws.specs.First.{Pair, PendingPair, start, unmet}
-use Rattle.bson_evolve_differences.specs.Walk.{found, found_first, reached, told, AreDifferences, Difference}
+use Rattle.bson_evolve_differences.specs.Differences.{found, found_first, reached, differences_at, AreDifferences, Difference}
 
 -- What is found from these pairs on, where those were met, comes behind these differences.
 abbrev pub Finds : (old new : Form) → List Difference → (pairs : List Pair) → List PendingPair → Type 0
@@ -31,9 +31,9 @@ module _ (old new : Form) where
     found_all none = let r = left 1 in (r.0, r.1 ∙ ap (λ ps. option_map (λ rest. ds ++ rest) (found_first (later 0) pairs ps)) none ∙ ap Some (append-nil ds))
 
     -- the first that was not met is entered
-    pub finds_on : (d : PendingPair) (rest : List PendingPair) → unmet pairs before ≡ d ∷ rest → Finds old new (ds ++ told d) (d.pair ∷ pairs) (reached d ++ rest)
+    pub finds_on : (d : PendingPair) (rest : List PendingPair) → unmet pairs before ≡ d ∷ rest → Finds old new (ds ++ differences_at d) (d.pair ∷ pairs) (reached d ++ rest)
     finds_on d rest first = λ n.
         let r = left (suc n) in (
           r.0,
-          r.1 ∙ ap (λ ps. option_map (λ others. ds ++ others) (found_first (later n) pairs ps)) first ∙ both_before ds (told d) (found n (d.pair ∷ pairs) (reached d ++ rest)),
+          r.1 ∙ ap (λ ps. option_map (λ others. ds ++ others) (found_first (later n) pairs ps)) first ∙ both_before ds (differences_at d) (found n (d.pair ∷ pairs) (reached d ++ rest)),
         )

@@ -8,7 +8,7 @@ use Rattle.bson_values.specs.Refusal.{Path, at_key}
 use Rattle.bson_laws.specs.Named.{form_of, has}
 use Rattle.bson_laws.specs.Variants.{content_of}
 use Rattle.bson_evolve_laws.specs.Rows.{Step, Answer, and_also, are_known, content_row, enum_row, field_row, row, struct_row}
-use Rattle.bson_evolve_differences.specs.Apart.{apart, closed_reasons, content_reasons, is_answered, is_given, missing, reason, unknown, unless, variant_reasons}
+use Rattle.bson_evolve_differences.specs.Mismatch.{content_reasons, is_given, mismatch, missing, passes, unknown, unless, variant_reasons}
 use Rattle.bson_evolve_differences.specs.Reasons.{Reason, missing_field, missing_in_variant, other_content, unknown_field}
 
 abbrev pub IsSomething : List Reason → Type 0
@@ -49,15 +49,15 @@ some_unknown (field name x fs) gs e = by_case (has gs name) refl e (λ k. some_u
   by_case true is k others = in_rest (unless (has gs name) (unknown_field name)) (unknown fs gs) (others k)
   by_case false is k others = in_first (unless (has gs name) (unknown_field name)) (unknown fs gs) (is_said (has gs name) (unknown_field name) is)
 
-some_closed : (fs gs : Fields) → cond (are_known fs gs) (struct_row [] fs gs) None ≡ None → IsSomething (closed_reasons fs gs)
+some_closed : (fs gs : Fields) → cond (are_known fs gs) (struct_row [] fs gs) None ≡ None → IsSomething (missing missing_field fs gs ++ unknown fs gs)
 some_closed fs gs e = by_case (are_known fs gs) refl e where
-  by_case : (b : Bool) → are_known fs gs ≡ b → cond b (struct_row [] fs gs) None ≡ None → IsSomething (closed_reasons fs gs)
+  by_case : (b : Bool) → are_known fs gs ≡ b → cond b (struct_row [] fs gs) None ≡ None → IsSomething (missing missing_field fs gs ++ unknown fs gs)
   by_case true is k = in_first (missing missing_field fs gs) (unknown fs gs) (some_missing missing_field [] fs gs k)
   by_case false is k = in_rest (missing missing_field fs gs) (unknown fs gs) (some_unknown fs gs is)
 
 -- ---- enums
 
-other_is : (name : Utf8) (o : Answer) → o ≡ None → IsSomething (unless (is_answered o) (other_content name))
+other_is : (name : Utf8) (o : Answer) → o ≡ None → IsSomething (unless (passes o) (other_content name))
 other_is name None e = tt
 other_is name (Some ss) e = absurd (some_no e)
 
@@ -74,7 +74,7 @@ some_variant (variant name c vs) ws e = by_content (content_row name c (content_
   by_content (Some ss) None is also k others = in_rest (content_reasons name c (content_of ws name)) (variant_reasons vs ws) (others also)
   by_content (Some ss) (Some rest) is also k others = absurd (some_no k)
 
-pub some_reason : (a b : Form) → row a b ≡ None → IsSomething (apart a b)
+pub some_reason : (a b : Form) → row a b ≡ None → IsSomething (mismatch a b)
 some_reason (structure u name fs) (structure dropped other gs) e = some_missing missing_field [] fs gs e
 some_reason (structure u name fs) (structure denied other gs) e = some_closed fs gs e
 some_reason (enumeration vs) (enumeration ws) e = some_variant vs ws e

@@ -18,8 +18,8 @@ use Rattle.bson_evolve_laws.proofs.Universe.{answers_closed, places_of}
 use Rattle.bson_evolve_check.specs.Checks.{ArePlain}
 use Rattle.bson_evolve_check.specs.Searching.{AreAmong}
 use Rattle.bson_evolve_check.proofs.Few.{all_pairs, steps_among}
-use Rattle.bson_evolve_differences.specs.Apart.{common, common_field, common_fields, content_steps, steps_of, variant_steps}
-use Rattle.bson_evolve_differences.specs.Walk.{reached, steps, steps_at}
+use Rattle.bson_evolve_differences.specs.Mismatch.{common, common_field, common_fields, content_steps, steps_of, variant_steps}
+use Rattle.bson_evolve_differences.specs.Differences.{reached, steps, steps_by}
 
 module _ (P Q : Form → Type 0) where
   abbrev Sides : Form → Form → Type 0
@@ -62,7 +62,7 @@ module _ (P Q : Form → Type 0) where
 
   steps_named : (a b : Form) → P a → InnerAll P a → P (leaf Bson) → Q b → InnerAll Q b → Meets Sides (steps a b)
   steps_named a b p i c q j = by_row (row a b) (row_named P Q a b p i c q j) where
-    by_row : (o : Answer) → Named Sides o → Meets Sides (steps_at a b o)
+    by_row : (o : Answer) → Named Sides o → Meets Sides (steps_by a b o)
     by_row (Some ss) m = m
     by_row None m = parts_common a b i j
 

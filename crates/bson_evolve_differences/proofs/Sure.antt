@@ -11,7 +11,7 @@ use Rattle.bson_evolve_laws.specs.Rows.{Step}
 use Rattle.bson_evolve_laws.proofs.Searched.{met_in, In}
 use Rattle.bson_evolve_differences.specs.Reached.{IsIn, IsReached, ReachedIn, AreOfReached, TellEach}
 use Rattle.bson_evolve_differences.specs.Reasons.{Reason}
-use Rattle.bson_evolve_differences.specs.Walk.{difference, found, found_first, reached, reasons, steps, told, AreDifferences, Difference}
+use Rattle.bson_evolve_differences.specs.Differences.{difference, found, found_first, reached, reasons, steps, differences_at, AreDifferences, Difference}
 
 -- ---- lists
 
@@ -60,9 +60,9 @@ met_or_unmet met (d ∷ ds) x i = by_case (is_met met d.pair) refl i (λ j. met_
   by_case false is j others = inr j
 
 -- what is found behind a pair that is entered
-behind : (d : PendingPair) (o : Option (List Difference)) (ds : List Difference) → option_map (λ rest. told d ++ rest) o ≡ Some ds → (es : List Difference) × (o ≡ Some es) × (told d ++ es ≡ ds)
+behind : (d : PendingPair) (o : Option (List Difference)) (ds : List Difference) → option_map (λ rest. differences_at d ++ rest) o ≡ Some ds → (es : List Difference) × (o ≡ Some es) × (differences_at d ++ es ≡ ds)
 behind d None ds e = absurd (no_some e)
-behind d (Some es) ds e = (es, refl, some_is (told d ++ es) ds e)
+behind d (Some es) ds e = (es, refl, some_is (differences_at d ++ es) ds e)
 
 none_found : (ds : List Difference) → Some [] ≡ Some ds → [] ≡ ds
 none_found ds e = some_is [] ds e
@@ -71,7 +71,7 @@ none_found ds e = some_is [] ds e
 
 module _ (old new : Form) where
   abbrev Of : Difference → Type 0
-  Of e = (d : PendingPair) × IsReached old new d × IsIn e (told d)
+  Of e = (d : PendingPair) × IsReached old new d × IsIn e (differences_at d)
 
   abbrev AllReached : List PendingPair → Type 0
   AllReached ds = (d : PendingPair) → IsIn d ds → IsReached old new d
@@ -90,9 +90,9 @@ module _ (old new : Form) where
     by_pending [] g k others = absurd (subst (IsIn e) (sym (none_found ds g)) i)
     by_pending (d ∷ rest) g k others =
         let b = behind d (found n (d.pair ∷ met) (reached d ++ rest)) ds g in
-        by_case b.0 b.1 (in_either e (told d) b.0 (subst (IsIn e) (sym b.2) i))
+        by_case b.0 b.1 (in_either e (differences_at d) b.0 (subst (IsIn e) (sym b.2) i))
       where
-        by_case : (es : List Difference) → found n (d.pair ∷ met) (reached d ++ rest) ≡ Some es → IsIn e (told d) ⊎ IsIn e es → Of e
+        by_case : (es : List Difference) → found n (d.pair ∷ met) (reached d ++ rest) ≡ Some es → IsIn e (differences_at d) ⊎ IsIn e es → Of e
         by_case es h (inl j) = (d, k d (inl refl), j)
         by_case es h (inr j) = others (d.pair ∷ met) (reached d ++ rest) es h (reached_on d rest (k d (inl refl)) (λ x m. k x (inr m))) j
 
@@ -129,16 +129,16 @@ all_met met pending none d i = by_case (met_or_unmet met pending d i) where
 
 -- a pair that is entered
 module _ (met : List Pair) (pending rest : List PendingPair) (d : PendingPair) (first : unmet met pending ≡ d ∷ rest) (es : List Difference) (W : List Pair) (s : IsSure (d.pair ∷ met) (reached d ++ rest) es W) where
-  this_done : IsDone W (told d ++ es) d.pair
+  this_done : IsDone W (differences_at d ++ es) d.pair
   this_done = record {
     steps_in = λ x i. s.pending_in (pending_step d x) (in_first (pending_step d x) (reached d) rest (in_map (pending_step d) x (steps d.pair.old.form d.pair.new.form) i));
     told_in = λ r i. (
       d.path,
-      in_first (difference d.path d.pair.old.form d.pair.new.form r) (told d) es (in_map (difference d.path d.pair.old.form d.pair.new.form) r (reasons d.pair.old.form d.pair.new.form) i),
+      in_first (difference d.path d.pair.old.form d.pair.new.form r) (differences_at d) es (in_map (difference d.path d.pair.old.form d.pair.new.form) r (reasons d.pair.old.form d.pair.new.form) i),
     );
   }
 
-  sure_on : IsSure met pending (told d ++ es) W
+  sure_on : IsSure met pending (differences_at d ++ es) W
   sure_on = record {
     met_in = λ p i. s.met_in p (inr i);
     pending_in = λ x i. by_pending x (met_or_unmet met pending x i);
@@ -151,10 +151,10 @@ module _ (met : List Pair) (pending rest : List PendingPair) (d : PendingPair) (
       by_first (inl e) = subst (λ y. In y.pair W) (sym e) (s.met_in d.pair (inl refl))
       by_first (inr k) = s.pending_in x (in_rest x (reached d) rest k)
 
-    by_done : (p : Pair) → In p (d.pair ∷ met) ⊎ IsDone W es p → In p met ⊎ IsDone W (told d ++ es) p
-    by_done p (inl (inl e)) = inr (subst (IsDone W (told d ++ es)) (sym e) this_done)
+    by_done : (p : Pair) → In p (d.pair ∷ met) ⊎ IsDone W es p → In p met ⊎ IsDone W (differences_at d ++ es) p
+    by_done p (inl (inl e)) = inr (subst (IsDone W (differences_at d ++ es)) (sym e) this_done)
     by_done p (inl (inr j)) = inl j
-    by_done p (inr k) = inr (more_told W (told d) es p k)
+    by_done p (inr k) = inr (more_told W (differences_at d) es p k)
 
 sure : (n : ℕ) (met : List Pair) (pending : List PendingPair) (ds : List Difference) → found n met pending ≡ Some ds → (W : List Pair) × IsSure met pending ds W
 sure zero met pending ds f = absurd (no_some f)

@@ -8,9 +8,9 @@ use Rattle.bson_values.specs.Refusal.{Path}
 use Rattle.bson_evolve_laws.specs.First.{Pair, PendingPair, pending_step, Outcome, all_pass, fault, cut_off, unmet, entered, entered_first, search, start}
 use Rattle.bson_evolve_laws.specs.Rows.{Step, Answer, row}
 use Rattle.bson_evolve_laws.proofs.Searched.{search_yes}
-use Rattle.bson_evolve_differences.specs.Apart.{apart}
+use Rattle.bson_evolve_differences.specs.Mismatch.{mismatch}
 use Rattle.bson_evolve_differences.specs.Reasons.{Reason}
-use Rattle.bson_evolve_differences.specs.Walk.{difference, found, found_first, reasons_at, steps_at, AreDifferences, BeginsWithFault, Difference}
+use Rattle.bson_evolve_differences.specs.Differences.{difference, found, found_first, reasons_by, steps_by, AreDifferences, BeginsWithFault, Difference}
 use Rattle.bson_evolve_differences.proofs.Nonempty.{some_reason, IsSomething}
 
 abbrev Ends : Outcome → List Difference → Type 0
@@ -19,10 +19,10 @@ Ends o (d ∷ ds) = o ≡ fault d.path
 
 -- the same, where a pair is entered and the row has this answer
 abbrev told_by : PendingPair → Answer → List Difference
-told_by d o = map (difference d.path d.pair.old.form d.pair.new.form) (reasons_at d.pair.old.form d.pair.new.form o)
+told_by d o = map (difference d.path d.pair.old.form d.pair.new.form) (reasons_by d.pair.old.form d.pair.new.form o)
 
 abbrev reached_by : PendingPair → Answer → List PendingPair
-reached_by d o = map (pending_step d) (steps_at d.pair.old.form d.pair.new.form o)
+reached_by d o = map (pending_step d) (steps_by d.pair.old.form d.pair.new.form o)
 
 -- a pair that has a reason is the fault
 faulty : (path : Path) (a b : Form) (rs : List Reason) (o : Option (List Difference)) (ds : List Difference) → IsSomething rs → option_map (λ rest. map (difference path a b) rs ++ rest) o ≡ Some ds → Ends (fault path) ds
@@ -41,7 +41,7 @@ ends (suc n) met pending ds e = by_pending (unmet met pending) e (λ more later 
       → option_map (λ others. told_by d o ++ others) (found n (d.pair ∷ met) (reached_by d o ++ rest)) ≡ Some ds
       → ((more : List Pair) (later : List PendingPair) → found n more later ≡ Some ds → Ends (search n more later) ds) → Ends (entered (λ more later. search n more later) met d rest o) ds
   by_row d rest None is k others =
-      faulty d.path d.pair.old.form d.pair.new.form (apart d.pair.old.form d.pair.new.form) (found n (d.pair ∷ met) (reached_by d None ++ rest)) ds (some_reason d.pair.old.form d.pair.new.form is) k
+      faulty d.path d.pair.old.form d.pair.new.form (mismatch d.pair.old.form d.pair.new.form) (found n (d.pair ∷ met) (reached_by d None ++ rest)) ds (some_reason d.pair.old.form d.pair.new.form is) k
   by_row d rest (Some ss) is k others = others (d.pair ∷ met) (map (pending_step d) ss ++ rest) (same_rest (found n (d.pair ∷ met) (map (pending_step d) ss ++ rest)) ds k)
 
   by_pending : (l : List PendingPair) → found_first (λ more later. found n more later) met l ≡ Some ds

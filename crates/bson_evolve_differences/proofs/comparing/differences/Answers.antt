@@ -3,7 +3,7 @@ use Rattle.bson_laws.specs.Plain.{IsPlain}
 use Rattle.bson_evolve_check.specs.Checks.{ArePlain}
 use Rattle.bson_evolve_differences.specs.Views.{differences_view}
 use Rattle.bson_evolve_differences.proofs.Walks.{begins_with_fault}
-use Rattle.bson_evolve_differences.proofs.differing.differences.Goals as goal
+use Rattle.bson_evolve_differences.proofs.comparing.differences.Goals as goal
 
 pub returns-then-not-is_plain-clause-exact : goal.returns-then-not-is_plain-clause-exact
 returns-then-not-is_plain-clause-exact c = λ p. let both : true ≡ false = sym (c.is_plain.ensures.1 p) ∙ c.if-not-is_plain.true in cc
