@@ -26,7 +26,7 @@ ended text = text ++ 0 ∷ []
 
 -- the texts of a difference: the path, the notation of both parts, and the reason
 abbrev pub texts_of : Difference → Utf8
-texts_of d = ended (printed_path d.path) ++ ended d.old ++ ended d.new ++ ended (reason_text d.reason)
+texts_of d = ended (printed_path d.path) ++ (ended d.old ++ (ended d.new ++ ended (reason_text d.reason)))
 
 -- those of each, one after another
 abbrev pub difference_texts : List Difference → Utf8

@@ -1,11 +1,11 @@
 -- How the search goes on.
-use Rattle.std.proofs.Common.{◌≡◌, ℕ, zero, suc, ◌+◌, ◌<◌, ◌≤◌, Bool, true, false, cond, not, List, [], ◌∷◌, ◌++◌, drop, get_or, length, map, reverse, take, take_all, Some, None, refl, ap, sym, subst, ◌∙◌, arith}
+use Rattle.std.proofs.Common.{◌≡◌, ℕ, suc, ◌+◌, ◌<◌, ◌≤◌, Bool, true, false, cond, not, List, [], ◌∷◌, ◌++◌, drop, get_or, length, map, reverse, take, take_all, Some, None, refl, ap, sym, subst, ◌∙◌, arith}
 use Rattle.std.specs.BTreeSet.{BTreeSet}
 use Rattle.std.proofs.lemmas.List.{append-nil, append_assoc, length-append, length-take-le, map-append, reverse-append, reverse-reverse, take-take, take_at}
 use Rattle.bson_shape.specs.Form.{Form, Fields, no_fields}
 use Rattle.bson_values.specs.Refusal.{Path}
 use Rattle.bson_evolve_laws.specs.Compatible.{IsCompatible}
-use Rattle.bson_evolve_laws.specs.First.{Pair, pair_of, is_met, PendingPair, pending_step, Outcome, fault, unmet, entered, entered_first, search, start, IsFirstFault}
+use Rattle.bson_evolve_laws.specs.First.{Pair, pair_of, is_met, PendingPair, pending_step, Outcome, unmet, entered, entered_first, search, start, IsFirstFault}
 use Rattle.bson_evolve_laws.specs.Placed.{placed, peel, Placed}
 use Rattle.bson_evolve_laws.specs.Rows.{row, Step as RowStep}
 use Rattle.bson_evolve_laws.proofs.Searched.{search_yes}

@@ -1,10 +1,10 @@
 -- What is added to a mismatch, by one step or by the loop over a list.
-use Rattle.std.proofs.Common.{◌≡◌, ℕ, ◌+◌, ◌<◌, ◌≤◌, Bool, true, false, List, [], ◌∷◌, ◌++◌, length, get_or, drop, map, refl, ap, sym, ◌∙◌}
+use Rattle.std.proofs.Common.{◌≡◌, ℕ, ◌+◌, ◌<◌, ◌≤◌, Bool, true, false, List, [], ◌∷◌, ◌++◌, length, get_or, drop, ap, sym, ◌∙◌}
 use Rattle.std.proofs.lemmas.List.{append_assoc, append-nil, drop_all, map-append}
 use Rattle.bson_evolve_laws.specs.Rows.{Step, Answer}
 use Rattle.bson_evolve_check.specs.Steps.{answered, behind, step_view, steps_view}
 use Rattle.bson_evolve_check.specs.declared.step.Step.{Step as StepView}
-use Rattle.bson_evolve_check.proofs.Pushes.{drop_here, pushed}
+use Rattle.bson_evolve_check.proofs.Pushes.{drop_here}
 use Rattle.bson_evolve_check.proofs.RowLists.{behind_none}
 use Rattle.bson_evolve_differences.specs.Mismatch.{passes, steps_of, unless}
 use Rattle.bson_evolve_differences.specs.Reasons as reasons

@@ -1,5 +1,5 @@
 -- A pair that no row names has a reason.
-use Rattle.std.proofs.Common.{◌≡◌, Bool, true, false, cond, List, [], ◌∷◌, ◌++◌, Option, Some, None, refl, ap, sym, subst, ◌∙◌}
+use Rattle.std.proofs.Common.{◌≡◌, Bool, true, false, cond, List, [], ◌∷◌, ◌++◌, Option, Some, None, refl}
 use Rattle.std.specs.Prelude.{◌&&◌, option_and_then}
 use Rattle.bson_kinds.specs.Text.{Utf8}
 use Rattle.bson_kinds.proofs.Apart.{some_no, true_no}

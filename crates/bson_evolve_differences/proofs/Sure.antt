@@ -1,5 +1,5 @@
 -- The differences are those of the pairs that are reached, and of each of them.
-use Rattle.std.proofs.Common.{◌≡◌, ℕ, zero, suc, Bool, true, false, cond, List, [], ◌∷◌, ◌++◌, map, Option, Some, None, inl, inr, refl, ap, sym, subst, ◌∙◌}
+use Rattle.std.proofs.Common.{◌≡◌, ℕ, zero, suc, Bool, true, false, cond, List, [], ◌∷◌, ◌++◌, map, Option, Some, None, inl, inr, refl, ap, sym, subst}
 use Rattle.std.specs.Prelude.{◌⊎◌, option_map}
 use Rattle.bson_kinds.proofs.Apart.{no_some}
 use Rattle.bson_kinds.proofs.Outcomes.{some_is}
@@ -79,7 +79,7 @@ module _ (old new : Form) where
   reached_on : (d : PendingPair) (rest : List PendingPair) → IsReached old new d → AllReached rest → AllReached (reached d ++ rest)
   reached_on d rest r all x i = by_case (in_either x (reached d) rest i) where
     by_case : IsIn x (reached d) ⊎ IsIn x rest → IsReached old new x
-    by_case (inl j) = (suc r.0, d, r.1, j)
+    by_case (inl j) = (suc r.0, (d, r.1, j))
     by_case (inr j) = all x j
 
   of_reached : (n : ℕ) (met : List Pair) (pending : List PendingPair) (ds : List Difference) → found n met pending ≡ Some ds → AllReached pending → (e : Difference) → IsIn e ds → Of e

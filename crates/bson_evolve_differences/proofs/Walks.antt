@@ -1,12 +1,12 @@
 -- The first difference is where the search for the first fault ends.
-use Rattle.std.proofs.Common.{◌≡◌, ℕ, zero, suc, List, [], ◌∷◌, ◌++◌, map, Option, Some, None, refl, ap, sym, subst, ◌∙◌}
+use Rattle.std.proofs.Common.{◌≡◌, ℕ, zero, suc, List, [], ◌∷◌, ◌++◌, map, Option, Some, None, refl, subst}
 use Rattle.std.specs.Prelude.{option_map}
 use Rattle.bson_kinds.proofs.Apart.{no_some}
 use Rattle.bson_kinds.proofs.Outcomes.{some_is}
 use Rattle.bson_shape.specs.Form.{Form}
 use Rattle.bson_values.specs.Refusal.{Path}
-use Rattle.bson_evolve_laws.specs.First.{Pair, PendingPair, pending_step, Outcome, all_pass, fault, cut_off, unmet, entered, entered_first, search, start}
-use Rattle.bson_evolve_laws.specs.Rows.{Step, Answer, row}
+use Rattle.bson_evolve_laws.specs.First.{Pair, PendingPair, pending_step, Outcome, all_pass, fault, unmet, entered, entered_first, search, start}
+use Rattle.bson_evolve_laws.specs.Rows.{Answer, row}
 use Rattle.bson_evolve_laws.proofs.Searched.{search_yes}
 use Rattle.bson_evolve_differences.specs.Mismatch.{mismatch}
 use Rattle.bson_evolve_differences.specs.Reasons.{Reason}

@@ -3,7 +3,7 @@
 
 ghost use Rattle.std.specs.Prelude.{List};
 ghost use Rattle.bson_shape.specs.Form.{Form};
-ghost use Rattle.bson_evolve_differences.specs.Differences.{AreDifferences, BeginsWithFault, Difference};
+ghost use Rattle.bson_evolve_differences.specs.Differences.{AreDifferences, BeginsWithFault, Difference as DifferenceView};
 ghost use Rattle.bson_evolve_differences.specs.Reached.{AreOfReached, TellEach};
 
 mod comparing;
@@ -20,7 +20,7 @@ pub use difference::{Difference, Reason};
 ///
 /// It does nothing.
 pub fn law_differences()
-    ensures begins { (old new : Form) (ds : List Difference) → AreDifferences old new ds → BeginsWithFault old new ds }
-    ensures reached { (old new : Form) (ds : List Difference) → AreDifferences old new ds → AreOfReached old new ds }
-    ensures each { (old new : Form) (ds : List Difference) → AreDifferences old new ds → TellEach old new ds }
+    ensures begins { (old new : Form) (ds : List DifferenceView) → AreDifferences old new ds → BeginsWithFault old new ds }
+    ensures reached { (old new : Form) (ds : List DifferenceView) → AreDifferences old new ds → AreOfReached old new ds }
+    ensures each { (old new : Form) (ds : List DifferenceView) → AreDifferences old new ds → TellEach old new ds }
 {}

@@ -86,7 +86,7 @@ fn push_differences(
     new: &Shape,
     reasons: Vec<Reason>,
 ) -> Result<(), AllocError>
-    ensures { OnOk result (differences_view found.new.items ≡ differences_view found.old.items ++ map (difference (route_path route.now) old.now new.now) (reasons_view reasons.entry.items)) }
+    ensures { OnOk result (differences_view found.new.items ≡ differences_view found.old.items ++ map (difference (route_path route.now) old.now new.now) (reasons_view reasons.items)) }
 {
     for reason in reasons {
         let path = path_of(alloc, route)?;
