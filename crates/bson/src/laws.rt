@@ -20,7 +20,7 @@ pub use bson_laws::{
 pub use bson_recast_run::law_run_again;
 pub use bson_shape::{law_guarded, law_text};
 pub use bson_tree_laws::{law_fitting_written, law_writers};
-pub use bson_types::law_round_trip;
+pub use bson_types::{law_round_trip, law_round_trip_equal};
 pub use bson_ways_laws::{
     law_two_ways, law_two_ways_reading, law_two_ways_simple, law_two_ways_writing,
 };
