@@ -5,6 +5,7 @@
 
 pub use bson_assembled::law_assembled;
 pub use bson_base::law_opened_folds;
+pub use bson_evolve_differences::law_differences;
 pub use bson_evolve_laws::{law_compatible, law_first_fault, law_plain, law_reflexive};
 pub use bson_helpers::law_marks_compare;
 pub use bson_infer_laws::{
