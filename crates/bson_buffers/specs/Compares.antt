@@ -20,13 +20,13 @@ use Rattle.bson_buffers.specs.Checks.{NoShapeRow}
 use Rattle.bson_buffers.specs.declared.status.Status.{Status}
 use Rattle.bson_buffers.specs.declared.status.Status.TheVariants as statuses
 
--- a text with a zero byte behind it
-abbrev pub ended : Utf8 → Utf8
-ended text = text ++ 0 ∷ []
+-- a text with a zero byte behind it, and then what comes behind that
+abbrev pub ended : Utf8 → Utf8 → Utf8
+ended text rest = text ++ 0 ∷ rest
 
 -- the texts of a difference: the path, the notation of both parts, and the reason
 abbrev pub texts_of : Difference → Utf8
-texts_of d = ended (printed_path d.path) ++ (ended d.old ++ (ended d.new ++ ended (reason_text d.reason)))
+texts_of d = ended (printed_path d.path) (ended d.old (ended d.new (ended (reason_text d.reason) [])))
 
 -- those of each, one after another
 abbrev pub difference_texts : List Difference → Utf8
@@ -77,6 +77,11 @@ OldRefusedRow old new c = NoShapeRow old c ⊎ NotPlainRow (λ a b. IsPlain a �
 -- The old one is a shape and the new one is none, or both are and the new one alone is not plain.
 abbrev pub NewRefusedRow : (old new : Bytes) → Call → Type 0
 NewRefusedRow old new c = ((a : Form) × DenotesShape old a × NoShapeRow new c) ⊎ NotPlainRow (λ a b. IsPlain a × (IsPlain b → ⊥)) NewNotPlain old new c
+
+-- the status where these are the differences
+abbrev pub differing_status : List Difference → Status
+differing_status [] = statuses.Done
+differing_status (d ∷ ds) = statuses.Different
 
 -- the status for the path to the first pair of parts that does not pass, where there is one
 abbrev pub fault_status : Option Path → Status

@@ -18,7 +18,7 @@ use Rattle.bson_migrate_run.specs.Lines.{refused_lines, AreLines}
 use Rattle.bson_migrate_run.specs.Migrating.{NotRecast, broken, migrated, migration_of}
 use Rattle.bson_buffers.specs.Asked.{DenotesShape, DenotesNone}
 use Rattle.bson_buffers.specs.Checks.{NoShapeRow}
-use Rattle.bson_buffers.specs.Compares.{difference_texts, CompatibleRow, DenoteShapes, DifferentRow, NewRefusedRow, OldRefusedRow}
+use Rattle.bson_buffers.specs.Compares.{difference_texts, differing_status, CompatibleRow, DenoteShapes, DifferentRow, NewRefusedRow, OldRefusedRow}
 use Rattle.bson_buffers.specs.Migrates as migrates
 use Rattle.bson_buffers.specs.Recasts.{RecastRow, LargerRow, UnreadRow, UnwrittenRow}
 use Rattle.bson_buffers.specs.Buffers.{Call, Writes, LacksSpace, Tells, IsSilent}
@@ -97,6 +97,13 @@ IsForShapes old new statuses.Different place output said =
 IsForShapes old new statuses.OldRefused place output said = (IsPlain old → ⊥) × (place ≡ 0) × (output ≡ []) × (said ≡ check_error_text OldNotPlain)
 IsForShapes old new statuses.NewRefused place output said = IsPlain old × (IsPlain new → ⊥) × (place ≡ 0) × (output ≡ []) × (said ≡ check_error_text NewNotPlain)
 IsForShapes old new status place output said = ⊥
+
+-- The texts of differences.
+pub record IsOfDifferences (ds : List Difference) (d : expected.Expected) : Type 0 where
+  pub status : d.status ≡ differing_status ds
+  pub place : d.place ≡ 0
+  pub output : d.output.items ≡ []
+  pub texts : string_bytes d.text ≡ difference_texts ds
 
 -- the same for bytes that may be two shapes
 abbrev pub IsForComparison : (old new : Bytes) → Status → (place : ℕ) → (output : Bytes) → (said : Utf8) → Type 0

@@ -1,14 +1,11 @@
 // Comparing two shapes.
 ghost use Rattle.std.specs.Prelude.{◌≡◌, ◌⊎◌, [], IfOk, string_bytes};
-ghost use Rattle.bson_shape.specs.Form.{Form};
-ghost use Rattle.bson_evolve_check.specs.Checks.{ArePlain};
 ghost use Rattle.bson_evolve_check.specs.Printed.{check_error_text};
-ghost use Rattle.bson_evolve_differences.specs.Differences.{AreDifferences};
 ghost use Rattle.bson_evolve_differences.specs.Views.{difference_view, differences_view};
 ghost use Rattle.bson_buffers.specs.Asked.{shape_of_bytes};
 ghost use Rattle.bson_buffers.specs.Buffers.{call_of, IsSilent};
 ghost use Rattle.bson_buffers.specs.Compares.{compared, difference_texts, texts_of, CompatibleRow, DifferentRow, NewRefusedRow, OldRefusedRow, IsCompared};
-ghost use Rattle.bson_buffers.specs.Expected.{IsForComparison, IsForShapes};
+ghost use Rattle.bson_buffers.specs.Expected.{IsForComparison, IsForShapes, IsOfDifferences};
 ghost use Rattle.bson_buffers.specs.declared.status.Status.TheVariants as statuses;
 
 use crate::asking::asked;
@@ -45,8 +42,7 @@ fn difference_texts(alloc: Global, found: &[Difference]) -> Result<String, Alloc
 
 // What must be written for differences. An error means out of memory.
 fn expected_for_differences(alloc: Global, found: &[Difference]) -> Result<Expected, AllocError>
-    ensures { IfOk result (λ d. (old new : Form) → ArePlain old new → AreDifferences old new (differences_view found.now)
-        → IsForShapes old new d.status d.place d.output.items (string_bytes d.text)) }
+    ensures { IfOk result (λ d. IsOfDifferences (differences_view found.now) d) }
 {
     let text = difference_texts(alloc, found)?;
     let status = match found {
@@ -72,7 +68,10 @@ fn expected_for_shapes(alloc: Global, old: &Shape, new: &Shape) -> Result<Expect
     ensures { IfOk result (λ d. IsForShapes old.now new.now d.status d.place d.output.items (string_bytes d.text)) }
 {
     match differences(alloc, old, new) {
-        Ok(found) => expected_for_differences(alloc, &found),
+        Ok(found) => {
+            let expected = expected_for_differences(alloc, &found)?;
+            Ok(expected)
+        }
         Err(CheckError::OldNotPlain) => {
             not_plain(alloc, Status::OldRefused, CheckError::OldNotPlain)
         }
