@@ -151,7 +151,8 @@ tbson_report tbson_check_shape(const uint8_t *shape, size_t shape_len, uint8_t *
  *                    that of the new one, and the reason, such as "a", "i64", "i32" and "the new type lacks numbers of the old one". The first path is
  *                    that of the `no at` of bson_evolve. It is "." for the shapes themselves: there the reason tells what does not pass, such as "the new
  *                    field b is no option, and the old struct lacks it". A pair of structs or enums has a difference for each such name, and their common
- *                    parts are compared all the same. No name of a plain shape holds a zero byte, except that of a definition.
+ *                    parts are compared all the same. A pair of equal parts is told once: where two fields go from i64 to i32, the first of them. No name
+ *                    of a plain shape holds a zero byte, except that of a definition.
  * TBSON_OLD_REFUSED  The bytes of the old shape are no shape, as of tbson_check_shape by place and text; or both are shapes, and the old one is not
  *                    plain: then the place is 0, and the text is "the old shape is not plain". docs/bson_evolve.1 says which shapes are plain.
  * TBSON_NEW_REFUSED  The same of the new shape.

@@ -265,7 +265,8 @@ def check_shape(shape: Union[str, bytes]) -> None:
 def differences(old: Union[str, bytes], new: Union[str, bytes]) -> List[Difference]:
     """Why documents that are written at an old shape need not be read at a new one; an empty list where the shapes are compatible.
 
-    The first path is that of the `no at` of bson_evolve, "." for the shapes themselves. Raises ShapeRefused where one is no shape, or not plain.
+    The first path is that of the `no at` of bson_evolve, "." for the shapes themselves. A pair of equal parts is told once: where two fields go from i64 to
+    i32, the first of them. Raises ShapeRefused where one is no shape, or not plain.
     """
     with _Bytes(_shape_bytes(old)) as old_pair, _Bytes(_shape_bytes(new)) as new_pair:
         text_len = 4096

@@ -112,7 +112,7 @@ fn compare(alloc: Global, old: &[u8], new: &[u8], text: &mut [u8]) -> Report
 /// The buffer for the text gets as many of its first bytes as fit. The status says what came of it:
 ///
 /// - `Done`: the shapes are compatible, so each sound document that is written at the old one is read at the new one. There is no text.
-/// - `Different`: they are not. The text has four parts for each pair of parts that passes no row of the table of compatibility, in the order of [`differences`]: the path, the
+/// - `Different`: they are not. The text has four parts for each difference, in the order of [`differences`]: the path, the
 ///   notation of the old part, that of the new part, and the reason. Behind each is a zero byte.
 /// - `OldRefused`: the bytes of the old shape are the notation of none, as `check_shape` tells by place and text; or both are shapes, and the old one is not plain: then the place
 ///   is 0, and the text is `the old shape is not plain`.

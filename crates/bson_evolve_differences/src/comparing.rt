@@ -10,12 +10,18 @@ use bson_evolve_check::{CheckError, is_plain};
 use bson_shape::Shape;
 use std::alloc::{AllocError, Global};
 
-/// Each pair of parts that is reached from two shapes and passes no row of the table of compatibility, in depth-first order, with a reason.
+/// Why documents that are written at an old shape need not be read at a new one: each pair of parts that is reached from the two and passes no row of the table in
+/// `docs/DEFINITIONS.md`, in depth-first order, with a reason.
 ///
-/// There is one exactly where `check` of `bson_evolve_check` says no, and the first is at its path. The search goes on where `check` stops: two structs that do not pass
-/// give one difference for each field that is missing or refused, and two enums one for each variant that is missing or has other content and for each missing field of
-/// a variant; what both have in common is compared all the same. Nothing inside other parts that do not pass is. Each pair is entered once, on the first way to it. Pairs,
-/// paths and costs are those of `check`, and each difference holds the notation of both parts.
+/// There is one exactly where `check` of `bson_evolve_check` says no, and the first is at its path. Where that is the path of the shapes themselves, which is printed as `.`, the
+/// reason tells what does not pass there, such as a field that the old shape lacks.
+///
+/// The search goes on where `check` stops. Two structs that do not pass give one difference for each field that is missing or refused, and two enums one for each variant that
+/// is missing or has other content and for each missing field of a variant; what both have in common is compared all the same. Nothing inside other parts that do not pass is.
+/// Paths and costs are those of `check`, and each difference holds the notations of both parts.
+///
+/// As in `check`, parts of equal forms in equal definitions are one part, and each pair is entered once, on the first way to it: where two fields go from `i64` to `i32`, the
+/// first of them is told.
 ///
 /// # Errors
 ///
