@@ -1,0 +1,5 @@
+pub mod Nexts
+pub mod Dues
+pub mod OneMore
+pub mod UnderWay
+pub mod Closings
