@@ -3,3 +3,4 @@ pub mod Dues
 pub mod OneMore
 pub mod UnderWay
 pub mod Closings
+pub mod Files

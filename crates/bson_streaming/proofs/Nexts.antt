@@ -38,17 +38,17 @@ told_by_four b more long = ap (λ z. result_map (λ n. n + 0) (length_from 5 z))
 extent_is : (b : Bytes) → 4 ≤ length b → extent EmbeddedDocument b ≡ by_number b
 extent_is b long = of_four (nat_lt (length b) 4) b (le-ltb _ _ long)
 
-extent_front : (b more : Bytes) → 4 ≤ length b → extent EmbeddedDocument (b ++ more) ≡ extent EmbeddedDocument b
+pub extent_front : (b more : Bytes) → 4 ≤ length b → extent EmbeddedDocument (b ++ more) ≡ extent EmbeddedDocument b
 extent_front b more long = extent_is (b ++ more) (omega (arith, long, length-append b more)) ∙ told_by_four b more long ∙ sym (extent_is b long)
 
 short_or : (t : Bool) (b : Bytes) (n : ℕ) → cond t (Err BadExtent) (by_number b) ≡ Ok n → t ≡ false
 short_or true b n e = absurd cc
 short_or false b n e = refl
 
-four_there : (b : Bytes) (n : ℕ) → extent EmbeddedDocument b ≡ Ok n → 4 ≤ length b
+pub four_there : (b : Bytes) (n : ℕ) → extent EmbeddedDocument b ≡ Ok n → 4 ≤ length b
 four_there b n e = omega (arith, ltb-false _ _ (short_or (nat_lt (length b) 4) b n e))
 
-five_at_least : (b : Bytes) (n : ℕ) → extent EmbeddedDocument b ≡ Ok n → 5 ≤ n
+pub five_at_least : (b : Bytes) (n : ℕ) → extent EmbeddedDocument b ≡ Ok n → 5 ≤ n
 five_at_least b n e = let told = announced_is 5 0 b n e in omega (arith, told.2, told.3)
 
 too_many : (t : Bool) (n : ℕ) → t ≡ true → cond t None (Some n) ≡ None
