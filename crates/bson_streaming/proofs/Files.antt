@@ -40,8 +40,8 @@ module _ (file came rest : Bytes) (before after : Option Bytes) (is : before ≡
       let pieces : (cut file).pieces ≡ (cut came).pieces = ap (λ (c : Cut). c.pieces) parts ∙ append-nil (cut came).pieces in
       let place : (cut file).broken ≡ Some (length came) = ap (λ (c : Cut). c.broken) parts ∙ ap Some zero_more in
       λ i. record { pieces = pieces i; broken = place i } where
-    nothing : (more : Bytes) → after ≡ Some more → IsAtEnd after ⊎ ((m : Bytes) → piece_length (rest ++ m) ≡ None) → piece_length (rest ++ more) ≡ None
-    nothing more is_left (inl at) =
-        let none : more ≡ [] = subst IsAtEnd is_left at in
-        ap (λ m. piece_length (rest ++ m)) none ∙ ap piece_length (append-nil rest) ∙ break.none
-    nothing more is_left (inr never) = never more
+        nothing : (more : Bytes) → after ≡ Some more → IsAtEnd after ⊎ ((m : Bytes) → piece_length (rest ++ m) ≡ None) → piece_length (rest ++ more) ≡ None
+        nothing more is_left (inl at) =
+            let none : more ≡ [] = subst IsAtEnd is_left at in
+            ap (λ m. piece_length (rest ++ m)) none ∙ ap piece_length (append-nil rest) ∙ break.none
+        nothing more is_left (inr never) = never more
