@@ -18,6 +18,7 @@ pub use bson_laws::{
     law_reads_numbers, law_reads_spell, law_reads_tree, law_recast_again, law_references_read,
     law_references_seen, law_spell_means, law_views_means, law_views_reads,
 };
+pub use bson_number_laws::law_tree_numbers;
 pub use bson_recast_run::law_run_again;
 pub use bson_shape::{law_guarded, law_text};
 pub use bson_tree_laws::{law_fitting_written, law_writers};
