@@ -160,9 +160,9 @@ def equal_function(type, depth):
 
 
 def equal_contents(type, x, y):
-    """That the contents of two values are equal. Of pairs the type is said, since none is found."""
+    """That the contents of two values are equal. Of pairs and of `tt` the type is said, since none is found."""
     first, second = fill(type.contents, x), fill(type.contents, y)
-    return f"◌≡◌ {{A = {type.Contents}}} {enclosed(first)} {enclosed(second)}" if "," in first else f"{first} ≡ {second}"
+    return f"◌≡◌ {{A = {type.Contents}}} {enclosed(first)} {enclosed(second)}" if re.search(r",|\btt\b", first) else f"{first} ≡ {second}"
 
 
 def fill(template, x, h="h"):
