@@ -1,5 +1,6 @@
 #!/usr/bin/env python3
-"""Writes what your own types need to be written and read: the impls of `Serialize`, `Deserialize`, `RoundTrip` and `NeverNull`, and the definitions that they cite.
+"""Writes what your own types need to be written and read: the impls of `Serialize`, `Deserialize`, `RoundTrip` and `NeverNull`, and of `EqualByContents` where a type derives `PartialEq`,
+and the definitions that they cite.
 
     tools/derive.py CRATE FILE..
 
@@ -10,6 +11,7 @@ a capital letter; declare it in specs/Lib.antt. A type that another one holds co
 The types of fields: `bool`, the integer types, `char`, `String`, `Double`, `()`, `ObjectId`, `DateTime`, `Timestamp`, `Decimal128`, `Uuid`, `Binary`,
 `DbPointer`, `Regex`, `JavaScriptCodeWithScope`, `Document`, `Bson`, `Vec<T>`, `Option<T>`, `BTreeMap<String, T>`, and types of other FILEs. An `Option<T>` needs a `T` that is never written as Null.
 """
+import collections
 import os
 import re
 import sys
@@ -17,54 +19,67 @@ import sys
 STRUCT = re.compile(r"pub struct (\w+) \{\n(.*?)^\}", re.DOTALL | re.MULTILINE)
 ENUM = re.compile(r"pub enum (\w+) \{\n(.*?)^\}", re.DOTALL | re.MULTILINE)
 FIELD = re.compile(r"    pub (\w+): (.*),")
+DERIVES_EQUAL = re.compile(r"#\[derive\([^)]*\bPartialEq\b")
 VARIANT = re.compile(r"    (\w+)(?:\((.*)\))?,")
 
 
 class Type:
     """A type: its form, the type of its contents and what a datum gives, and of a value `x` what it is written as, its contents, that it is one of the type, and
-    the two laws, where `h` says that it is one of the type."""
+    the two laws, where `h` says that it is one of the type. `equal` gives the text of why two values are `==`: of these two, of an equation between what they are parts of,
+    and of the place of their contents in that; it is None where `==` is none that is derived."""
 
-    def __init__(self, form, Contents, taken, written, contents, holds, returns, not_null):
+    def __init__(self, form, Contents, taken, written, contents, holds, returns, not_null, equal):
         self.form, self.Contents, self.taken = form, Contents, taken
         self.written, self.contents, self.holds, self.returns, self.not_null = written, contents, holds, returns, not_null
+        self.equal = equal
 
 
 # the types whose law of never being Null asks that the value is one of the type
 KNOWING = ("id", "date", "stamp", "decimal", "binary", "pointer", "regex", "document", "scoped")
 
 
-def leaf(word, Contents, taken, written, contents, holds, name, argument="{x}", known="{h}"):
+def same(lemma, *arguments):
+    """Why two values without parts are `==`: by a lemma, of what each of them contains."""
+    return lambda x, y, e, place: " ".join([lemma, *(fill(of, x) for of in arguments), *(fill(of, y) for of in arguments), equation(e, place)])
+
+
+def equation(e, place):
+    """The equation between the parts at a place, from that between the wholes."""
+    return f"(λ i. ({e} i){place})" if place else e
+
+
+def leaf(word, Contents, taken, written, contents, holds, name, argument="{x}", known="{h}", equal=None):
     law = f"{name}_returns {argument} {known}".strip() if argument else f"{name}_returns"
     null = f"{name}_not_null {argument} {known.removesuffix(' {h}.2')}" if name in KNOWING else f"{name}_not_null {argument}"
-    return Type(f"leaf leaves.{word}", Contents, taken, written, contents, holds, law, None if name in ("unit", "tree") else null)
+    return Type(f"leaf leaves.{word}", Contents, taken, written, contents, holds, law, None if name in ("unit", "tree") else null, equal or same(f"{name}_equal", argument))
 
 
 LEAVES = {
     "bool": leaf("Bool", "Bool", "taken_bool", "Ok (boolean {x})", "{x}", "Unit {0}", "bool", known=""),
-    "char": leaf("Char", "ℕ", "taken_char", "Ok (character {x})", "{x}", "IsScalar {x}", "char"),
-    "String": leaf("String", "Utf8", "taken_text", "Ok (str (string_bytes {x}))", "string_bytes {x}", "is_utf8 (string_bytes {x}) ≡ true", "string", "(string_bytes {x})"),
-    "Double": leaf("Double", "Bytes", "taken_double", "Ok (double {x}.0)", "{x}.0", "HasBytes 8 {x}.0", "double", "{x}.0"),
-    "()": leaf("Unit", "Unit {0}", "taken_unit", "Ok unit", "tt", "Unit {0}", "unit", "", ""),
-    "ObjectId": leaf("ObjectId", "Bytes", "taken_id", "Ok (id_datum {x}.0)", "{x}.0", "HasBytes 12 {x}.0", "id", "{x}.0"),
-    "DateTime": leaf("DateTime", "ℤ", "taken_date", "Ok (date_datum (millis {x}))", "millis {x}", "FitsSigned w64 (millis {x})", "date", "(millis {x})"),
+    "char": leaf("Char", "ℕ", "taken_char", "Ok (character {x})", "{x}", "IsScalar {x}", "char", equal=same("nat_equal", "{x}")),
+    "String": leaf("String", "Utf8", "taken_text", "Ok (str (string_bytes {x}))", "string_bytes {x}", "is_utf8 (string_bytes {x}) ≡ true", "string", "(string_bytes {x})", equal=same("string_equal", "{x}")),
+    "Double": leaf("Double", "Bytes", "taken_double", "Ok (double {x}.0)", "{x}.0", "HasBytes 8 {x}.0", "double", "{x}.0", equal=same("bytes_equal", "{x}.0")),
+    "()": leaf("Unit", "Unit {0}", "taken_unit", "Ok unit", "tt", "Unit {0}", "unit", "", "", equal=lambda x, y, e, place: "refl"),
+    "ObjectId": leaf("ObjectId", "Bytes", "taken_id", "Ok (id_datum {x}.0)", "{x}.0", "HasBytes 12 {x}.0", "id", "{x}.0", equal=same("bytes_equal", "{x}.0")),
+    "DateTime": leaf("DateTime", "ℤ", "taken_date", "Ok (date_datum (millis {x}))", "millis {x}", "FitsSigned w64 (millis {x})", "date", "(millis {x})", equal=same("int_equal", "(millis {x})")),
     "Timestamp": leaf("Timestamp", "ℤ × ℤ", "taken_stamp", "Ok (stamp_datum (pos {x}.time, pos {x}.increment))", "(pos {x}.time, pos {x}.increment)",
                       "(({x}.time < 2 ^ 32) × ({x}.increment < 2 ^ 32))", "stamp", "{x}.time {x}.increment", "{h}.0 {h}.1"),
-    "Decimal128": leaf("Decimal128", "Bytes", "taken_decimal", "Ok (decimal_datum {x}.0)", "{x}.0", "HasBytes 16 {x}.0", "decimal", "{x}.0"),
+    "Decimal128": leaf("Decimal128", "Bytes", "taken_decimal", "Ok (decimal_datum {x}.0)", "{x}.0", "HasBytes 16 {x}.0", "decimal", "{x}.0", equal=same("bytes_equal", "{x}.0")),
     "DbPointer": leaf("DbPointer", "Utf8 × Bytes", "taken_pointer", "Ok (pointer_datum (string_bytes {x}.namespace, {x}.id.0))", "(string_bytes {x}.namespace, {x}.id.0)",
                       "((is_utf8 (string_bytes {x}.namespace) ≡ true) × HasBytes 12 {x}.id.0)", "pointer", "(string_bytes {x}.namespace) {x}.id.0", "{h}.0 {h}.1"),
     "Regex": leaf("Regex", "Utf8 × Utf8", "taken_regex", "Ok (regex_datum ({x}.pattern, {x}.options))", "({x}.pattern, {x}.options)",
                   "((is_utf8 {x}.pattern ≡ true) × (is_utf8 {x}.options ≡ true) × (sorted {x}.options ≡ {x}.options))", "regex", "{x}.pattern {x}.options", "{h}.0 {h}.1 {h}.2"),
-    "Uuid": leaf("Uuid", "Bytes", "taken_uuid", "Ok (uuid_value {x}.0)", "{x}.0", "HasBytes 16 {x}.0", "uuid", "{x}.0"),
-    "JavaScriptCodeWithScope": leaf("CodeWithScope", "Utf8 × Pairs", "taken_scoped", "Ok (scoped_datum (scoped_contents {x}))", "scoped_contents {x}", "IsTreeScoped (scoped_contents {x})", "scoped", "(scoped_contents {x})"),
-    "Document": leaf("Document", "Pairs", "taken_document", "Ok (document_datum (pairs_of {x}))", "pairs_of {x}", "IsTreeDocument (pairs_of {x})", "document", "(pairs_of {x})"),
+    "Uuid": leaf("Uuid", "Bytes", "taken_uuid", "Ok (uuid_value {x}.0)", "{x}.0", "HasBytes 16 {x}.0", "uuid", "{x}.0", equal=same("bytes_equal", "{x}.0")),
+    "JavaScriptCodeWithScope": leaf("CodeWithScope", "Utf8 × Pairs", "taken_scoped", "Ok (scoped_datum (scoped_contents {x}))", "scoped_contents {x}", "IsTreeScoped (scoped_contents {x})", "scoped", "(scoped_contents {x})", equal=same("scoped_equal", "(string_bytes {x}.code)", "(pairs_of {x}.scope)")),
+    "Document": leaf("Document", "Pairs", "taken_document", "Ok (document_datum (pairs_of {x}))", "pairs_of {x}", "IsTreeDocument (pairs_of {x})", "document", "(pairs_of {x})", equal=same("pairs_equal", "(pairs_of {x})")),
     "Bson": leaf("Bson", "Tree", "taken_tree", "Ok (tree_datum (tree_of {x}))", "tree_of {x}", "IsTree (tree_of {x})", "tree", "(tree_of {x})"),
     "Binary": leaf("Binary", "ℕ × Bytes", "taken_binary", "Ok (binary_datum ({x}.subtype.0, {x}.bytes.items))", "({x}.subtype.0, {x}.bytes.items)",
                    "(({x}.subtype.0 < 256) × AreBytes {x}.bytes.items)", "binary", "{x}.subtype.0 {x}.bytes.items", "{h}.0 {h}.1"),
 }
 for bits in ("8", "16", "32", "64"):
     signed, unsigned = f"i{bits}", f"u{bits}"
-    LEAVES[signed] = leaf(signed.upper(), "ℤ", f"taken_{signed}", f"Ok (integer {signed} {{x}})", "{x}", f"FitsSigned w{bits} {{x}}", signed)
-    LEAVES[unsigned] = leaf(unsigned.upper(), "ℕ", f"taken_{unsigned}", f"Ok (integer {unsigned} (pos {{x}}))", "{x}", f"{{x}} < 2 ^ {bits}", unsigned)
+    LEAVES[signed] = leaf(signed.upper(), "ℤ", f"taken_{signed}", f"Ok (integer {signed} {{x}})", "{x}", f"FitsSigned w{bits} {{x}}", signed, equal=same("int_equal", "{x}"))
+    LEAVES[unsigned] = leaf(unsigned.upper(), "ℕ", f"taken_{unsigned}", f"Ok (integer {unsigned} (pos {{x}}))", "{x}", f"{{x}} < 2 ^ {bits}", unsigned, equal=same("nat_equal", "{x}"))
 
 EXTENDED = ("id", "date", "stamp", "decimal", "uuid", "binary", "pointer", "regex")
 TREES = ("tree", "document", "scoped")
@@ -105,19 +120,25 @@ WORDS = {
     "Rattle.bson.specs.OptionsBack": "option_returns",
     "Rattle.bson.specs.MapsBack": "map_returns map_not_null",
     "Rattle.bson.specs.StructsBack": "ReturnFields field_returns last_returns structure_returns structure_not_null",
+    "Rattle.bson.specs.Equal": "bool_equal nat_equal int_equal bytes_equal string_equal stamp_equal tree_equal pairs_equal binary_equal regex_equal pointer_equal scoped_equal and_equal option_equal items_equal map_equal",
     "Rattle.bson.specs.VariantsBack": "unit_variant_returns newtype_variant_returns unit_variant_not_null newtype_variant_not_null",
 }
 
 
 # what each impl is written with, and what only some are
 TRAITS = "Datum Deserialize NeverNull RoundTrip Serialize Shape ShapeError de ser".split()
+EQUAL = "EqualByContents"
 HELPERS = "FieldShapes StructFields VariantShapes add_field is_unit_variant newtype_value newtype_variant not_fitting struct_datum unit_variant".split()
 
 
-def own(name):
+# the type of another file: the name of its definitions, and why two of its values are `==`, as in `Type`
+Own = collections.namedtuple("Own", "home equal")
+
+
+def own(name, equal):
     """The type of another file."""
     word = snake(name)
-    return Type(f"{word}_form", f"{name}Contents", f"taken_{word}", f"written_{word} {{x}}", f"{word}_contents {{x}}", f"Is{name} {{x}}", f"{word}_returns {{x}} {{h}}", f"{word}_not_null {{x}}")
+    return Type(f"{word}_form", f"{name}Contents", f"taken_{word}", f"written_{word} {{x}}", f"{word}_contents {{x}}", f"Is{name} {{x}}", f"{word}_returns {{x}} {{h}}", f"{word}_not_null {{x}}", equal)
 
 
 def snake(name):
@@ -133,6 +154,17 @@ def function(template, depth, known=False):
     return f"(λ {x} {h}. {fill(template, x, h)})" if known else f"(λ {x}. {fill(template, x)})"
 
 
+def equal_function(type, depth):
+    """Why two values are `==`, as a function of them and of the equation of their contents."""
+    return f"(λ x{depth} y{depth} e{depth}. {type.equal(f'x{depth}', f'y{depth}', f'e{depth}', '')})"
+
+
+def equal_contents(type, x, y):
+    """That the contents of two values are equal. Of pairs and of `tt` the type is said, since none is found."""
+    first, second = fill(type.contents, x), fill(type.contents, y)
+    return f"◌≡◌ {{A = {type.Contents}}} {enclosed(first)} {enclosed(second)}" if re.search(r",|\btt\b", first) else f"{first} ≡ {second}"
+
+
 def fill(template, x, h="h"):
     return template.replace("{x}", x).replace("{h}", h)
 
@@ -142,25 +174,30 @@ def typed(text, names, depth=0):
     if text in LEAVES:
         return LEAVES[text]
     if text in names:
-        return own(text)
+        return own(text, names[text].equal)
     outer = re.fullmatch(r"(Vec|Option|BTreeMap)<(?:String, )?(.*)>", text)
     if not outer:
         sys.exit(f"no type that is known here: {text}")
     part = typed(outer[2], names, depth + 1)
     w, c, t, f = function(part.written, depth), function(part.contents, depth), enclosed(part.taken), enclosed(part.form)
     p, r = function(part.holds, depth), function(part.returns, depth, True)
+
+    def equal(lemma, of):
+        """Why two values are `==` that are made of such parts."""
+        return part.equal and (lambda x, y, e, place: f"{lemma} {c} _ {equal_function(part, depth)} {x}{of} {y}{of} {equation(e, place)}")
+
     if outer[1] == "Vec":
         return Type(f"form.sequence {f}", f"List {enclosed(part.Contents)}", f"taken_sequence {t}", f"written_sequence {w} {{x}}.items", f"map {c} {{x}}.items", f"All {p} {{x}}.items",
-                    f"sequence_returns {w} {c} {t} {f} {p} {r} {{x}}.items {{h}}", f"sequence_not_null (written_items {w} {{x}}.items)")
+                    f"sequence_returns {w} {c} {t} {f} {p} {r} {{x}}.items {{h}}", f"sequence_not_null (written_items {w} {{x}}.items)", equal("items_equal", ".items"))
     if outer[1] == "BTreeMap":
         return Type(f"form.map (leaf leaves.String) {f}", f"List (Utf8 × {enclosed(part.Contents)})", f"taken_map {t}", f"written_map {w} {{x}}.entries", f"map_contents {c} {{x}}.entries", f"IsMapOf {p} {{x}}",
-                    f"map_returns {w} {c} {t} {f} {p} {r} {{x}} {{h}}", f"map_not_null (written_entries {w} {{x}}.entries)")
+                    f"map_returns {w} {c} {t} {f} {p} {r} {{x}} {{h}}", f"map_not_null (written_entries {w} {{x}}.entries)", equal("map_equal", ""))
     if part.not_null is None:
         sys.exit(f"{text}: a value of the inner type may be written as Null")
     x, h = f"x{depth}", f"h{depth}"
     n = f"(λ {x} {h}. {fill(part.not_null, x, h)})"
     return Type(f"form.optional {f}", f"Option {enclosed(part.Contents)}", f"taken_option {t}", f"written_option {w} {{x}}", f"option_map {c} {{x}}", f"IsOptional {p} {{x}}",
-                f"option_returns {w} {c} {t} {f} {p} {r} {n} {{x}} {{h}}", None)
+                f"option_returns {w} {c} {t} {f} {p} {r} {n} {{x}} {{h}}", None, equal("option_equal", ""))
 
 
 def enclosed(term):
@@ -219,6 +256,46 @@ def struct_definitions(name, fields, names):
     return lines
 
 
+def struct_equal(fields, names):
+    """Why two values of a struct are `==`: field by field."""
+    (field, text), *rest = fields
+    first = typed(text, names).equal
+    if not rest:
+        return first and (lambda x, y, e, place: first(f"{x}.{field}", f"{y}.{field}", e, place))
+    others = struct_equal(rest, names)
+    return first and others and (lambda x, y, e, place: f"and_equal _ _ ({first(f'{x}.{field}', f'{y}.{field}', e, place + '.0')}) ({others(x, y, e, place + '.1')})")
+
+
+def enum_equal(module, name, variants, names):
+    """Why two values of an enum are `==`: variant by variant."""
+    parts = [typed(text, names) if text else None for _, text in variants]
+    if not all(type.equal for type in parts if type):
+        return None
+    facts = " ".join(equal_function(type, 0) if type else "refl" for type in parts)
+    return lambda x, y, e, place: f"{snake(name)}_equal ⟦<crate::{module}::{name} as PartialEq>⟧.eq {facts} {x} {y} {equation(e, place)}"
+
+
+def enum_equal_lemma(name, variants, names):
+    """The law of `==` of an enum, from those of its variants."""
+    it = snake(name)
+    parts = [(variant, typed(text, names) if text else None) for variant, text in variants]
+    case = lambda variant, type, letter: f"(cases.{variant} {letter})" if type else f"cases.{variant}"
+    lines = ["", "-- Two values are `==` where their contents are equal, if those of each variant are.", f"pub {it}_equal : (E : {name} → {name} → Bool)"]
+    for variant, type in parts:
+        if type:
+            lines += [f"    → ((x y : _) → let p : {name} = cases.{variant} x in let q : {name} = cases.{variant} y in {equal_contents(type, 'x', 'y')} → E p q ≡ true)"]
+        else:
+            lines += [f"    → E cases.{variant} cases.{variant} ≡ true"]
+    lines += [f"    → (x y : {name}) → {it}_contents x ≡ {it}_contents y → E x y ≡ true"]
+    laws = " ".join(f"law-{variant}" for variant, _ in parts)
+    for variant, type in parts:
+        proof = f"law-{variant} x y cc" if type else f"law-{variant}"
+        lines += [f"{it}_equal E {laws} {case(variant, type, 'x')} {case(variant, type, 'y')} e = {proof}"]
+    if len(parts) > 1:
+        lines += [f"{it}_equal E {laws} x y e = absurd cc"]
+    return lines
+
+
 def enum_definitions(name, variants, names):
     """The definitions of an enum."""
     it, letter = snake(name), "x"
@@ -252,10 +329,10 @@ def enum_definitions(name, variants, names):
     return lines
 
 
-def uses(lines, crate, module, name, names, is_enum):
-    """The lines that bring in the words of the definitions."""
+def words_used(lines, crate, names):
+    """The lines that bring in the words of these lines."""
     text = "\n".join(line for line in lines if not line.startswith("--"))
-    words = set(re.findall(r"[\w'][\w'-]*", re.sub(r'"[^"]*"|(?<=[\w-])\.\w+', "", text)))
+    words = set(re.findall(r"[\w'][\w'-]*", re.sub(r'"[^"]*"|⟦[^⟧]*⟧|(?<=[\w-])\.\w+', "", text)))
     words |= {f"◌{sign}◌" for sign in "≡<^" if f" {sign} " in text}
     defined = set(re.findall(r"^(?:abbrev |pub |data )*([\w-]+) :", text, re.MULTILINE))
     out = []
@@ -267,11 +344,17 @@ def uses(lines, crate, module, name, names, is_enum):
             out.append("use Rattle.bson.specs.Leaves as leaves")
         if used:
             out.append(f"use {home}.{{{', '.join(used)}}}")
-    for other, home in names.items():
+    for other, (home, _) in names.items():
         it = snake(other)
-        used = [word for word in (f"written_{it}", f"{it}_form", f"{other}Contents", f"{it}_contents", f"taken_{it}", f"Is{other}", f"{it}_returns", f"{it}_not_null") if word in words]
+        used = [word for word in (f"written_{it}", f"{it}_form", f"{other}Contents", f"{it}_contents", f"taken_{it}", f"Is{other}", f"{it}_returns", f"{it}_not_null", f"{it}_equal") if word in words and word not in defined]
         if used:
             out.append(f"use Rattle.{crate}.specs.{home}.{{{', '.join(used)}}}")
+    return out
+
+
+def uses(lines, crate, module, name, names, is_enum):
+    """The lines that bring in the words of the definitions, and the type."""
+    out = words_used(lines, crate, names)
     out.append(f"use Rattle.{crate}.specs.declared.{module}.{name}.{{{name}}}")
     if is_enum:
         out.append(f"use Rattle.{crate}.specs.declared.{module}.{name}.TheVariants as cases")
@@ -310,11 +393,11 @@ def enum_code(name, variants):
     return to + ["}"], shape + ["variants.into_enum()"], of + ["Err(not_fitting())"], known + ["}"]
 
 
-def imports(code):
+def imports(code, compares):
     """What the impls are written with, in front of the file."""
     text = "\n".join(line for lines in code for line in lines)
     own = [name for name in HELPERS if f"{name}(" in text or f"{name}::" in text]
-    names = sorted(TRAITS + own, key=lambda it: (it[0].islower(), it))
+    names = sorted(TRAITS + own + [EQUAL] * compares, key=lambda it: (it[0].islower(), it))
     return f"use bson::{{{', '.join(names)}}};\nuse std::alloc::Global;\n"
 
 
@@ -373,6 +456,18 @@ impl<'de> NeverNull<'de> for {name} {{
 """
 
 
+def equal_impl(crate, name, equal, names):
+    """The text of the impl by which values of equal contents are `==`."""
+    term = f"λ x y e. {equal('x', 'y', 'e', '')}"
+    lines = "".join(f"    ghost {line};\n" for line in words_used([term], crate, names))
+    return f"""
+impl<'de> {EQUAL}<'de> for {name} {{
+{lines}
+    ghost equal = {{ {term} }};
+}}
+"""
+
+
 def parts_of(path, pattern, body):
     """The fields or the variants in the body of a type, each with its type."""
     parts = []
@@ -392,7 +487,7 @@ def parts_of(path, pattern, body):
 
 def judge_name(path, name, lines):
     """Ends where a definition of the type has a name that the definitions of types use."""
-    known = {word for words in WORDS.values() for word in words.split()} | {"form", "leaves", "cases", "h", "x", "Global"} | set(TRAITS + HELPERS)
+    known = {word for words in WORDS.values() for word in words.split()} | {"form", "leaves", "cases", "h", "x", "y", "e", "Global"} | set(TRAITS + HELPERS + [EQUAL])
     own = {name, snake(name)} | set(re.findall(r"^(?:abbrev |pub |data )*([\w-]+) :", "\n".join(lines), re.MULTILINE))
     if own & known:
         sys.exit(f"{path}: no type of the name `{name}`, since `{min(own & known)}` is a word of the definitions")
@@ -414,15 +509,21 @@ def main(crate, paths):
             sys.exit(f"{path}: it has the impls")
         parts = parts_of(path, FIELD if struct else VARIANT, body)
         lines = struct_definitions(name, parts, names) if struct else enum_definitions(name, parts, names)
+        equal = None
+        if DERIVES_EQUAL.search(text):
+            equal = struct_equal(parts, names) if struct else enum_equal(module, name, parts, names)
+        if equal and enum:
+            lines += enum_equal_lemma(name, parts, names)
         judge_name(path, name, lines)
         specs = os.path.join(os.path.dirname(os.path.dirname(os.path.abspath(path))), "specs")
         with open(f"{specs}/{home}.antt", "w", encoding="utf-8") as file:
             head = uses(lines, crate, module, name, names, not struct)
             file.write("\n".join([f"-- What a `{name}` is written as, read from and contains. Source: serde's data model.", *head, "", *lines]) + "\n")
         code = struct_code(name, parts) if struct else enum_code(name, parts)
+        names[name] = Own(home, equal)
+        last = equal_impl(crate, name, equal, names) if equal else ""
         with open(path, "w", encoding="utf-8") as file:
-            file.write(imports(code) + ("" if whole.startswith("use ") else "\n") + whole.rstrip("\n") + "\n" + impls(crate, home, name, code))
-        names[name] = home
+            file.write(imports(code, bool(equal)) + ("" if whole.startswith("use ") else "\n") + whole.rstrip("\n") + "\n" + impls(crate, home, name, code) + last)
 
 
 if __name__ == "__main__":

@@ -103,6 +103,13 @@ pub use Rattle.bson_laws.specs.Assembled
 pub use Rattle.bson_laws.specs.FirstKeys
 pub use Rattle.bson_assembled.specs.FreeKeys
 pub use Rattle.bson_evolve_check.specs.Checks
+pub use Rattle.bson_evolve_differences.specs.Differences
+pub use Rattle.bson_evolve_differences.specs.Lists
+pub use Rattle.bson_evolve_differences.specs.Mismatch
+pub use Rattle.bson_evolve_differences.specs.Printed as PrintedReasons
+pub use Rattle.bson_evolve_differences.specs.Reached
+pub use Rattle.bson_evolve_differences.specs.Reasons
+pub use Rattle.bson_evolve_differences.specs.Views as DifferenceViews
 pub use Rattle.bson_evolve_laws.specs.Compatible
 pub use Rattle.bson_evolve_laws.specs.First
 pub use Rattle.bson_evolve_laws.specs.Placed
@@ -130,8 +137,8 @@ pub use Rattle.bson_met.specs.ScalarView
 pub use Rattle.bson_met.specs.ValueView as MetValueView
 pub use Rattle.bson_texts.specs.ListsMarked
 pub use Rattle.bson_wrapped.specs.Data
-pub use Rattle.bson_raw_builder.specs.Putting as RawPutting
-pub use Rattle.bson_raw_builder.specs.RawValueView
+pub use Rattle.bson_raw_parts.specs.Putting as RawPutting
+pub use Rattle.bson_raw_parts.specs.RawValueView
 pub use Rattle.bson_de_raw.specs.Gives
 pub use Rattle.bson_de_raw.specs.ReadsLossy
 pub use Rattle.bson_de_tree.specs.Options as TreeOptions
@@ -140,8 +147,8 @@ pub use Rattle.bson_ser_parts.specs.Documents as PartsOfDocuments
 pub use Rattle.bson_ser_parts.specs.Pairs as PartsOfPairs
 pub use Rattle.bson_ser_parts.specs.Taking as PartsTaken
 pub use Rattle.bson_ser_parts.specs.Variants as PartsOfVariants
-pub use Rattle.bson_ser_value.specs.Values as PartsOfValues
-pub use Rattle.bson_fronts.specs.Fronts as FirstFields
+pub use Rattle.bson_ser_parts.specs.Values as PartsOfValues
+pub use Rattle.bson_ser_parts.specs.Fronts as FirstFields
 pub use Rattle.bson_tree_laws.specs.Alike
 pub use Rattle.bson_tree_laws.specs.TreeSpell
 pub use Rattle.bson_ser_tree.specs.Answers as TreeAnswers
@@ -162,7 +169,9 @@ pub use Rattle.bson_traits.specs.Sequences
 pub use Rattle.bson_traits.specs.ShapeOf
 pub use Rattle.bson_traits.specs.Structs
 pub use Rattle.bson_type_data.specs.Trees as TypeTrees
+pub use Rattle.bson_traits.specs.Prover.Equal
 pub use Rattle.bson_traits.specs.Prover.ExtendedBack
+pub use Rattle.bson_traits.specs.Prover.InTables
 pub use Rattle.bson_traits.specs.Prover.MapsBack
 pub use Rattle.bson_traits.specs.Prover.OptionsBack
 pub use Rattle.bson_traits.specs.Prover.ScalarsBack

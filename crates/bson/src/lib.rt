@@ -11,10 +11,10 @@
 //! | reading from trees | `from_bson_at`, `from_document_at`, and with options; `Deserializer`, `DeserializerOptions` |
 //! | writing to trees | `to_bson_at`, `to_document_at`, and with options; `Serializer`, with a writer for each form of value that is given part by part; `SerializerOptions` |
 //! | writing part by part | `DocumentWriter`, `VariantWriter`, `ValueWriter`, over an `Out` |
-//! | types of one's own | `Serialize`, `Deserialize`, `RoundTrip`, `NeverNull`; `to_vec`, `to_raw_document_buf`, `to_bson`, `to_document`, `from_bson`, `from_document`, and with options; `from_slice`, `from_reader`, and lossy; `FieldShapes`, `StructFields`, `add_field`, `struct_datum`, `VariantShapes`, `unit_variant`, `newtype_variant`, `is_unit_variant`, `newtype_value` and `not_fitting` for their impls; `HumanReadable`, `Utf8LossyDeserialization`, the modules of `bson_helpers` and the second names of their calls |
+//! | types of one's own | `Serialize`, `Deserialize`, `RoundTrip`, `NeverNull`, `EqualByContents`; `to_vec`, `to_raw_document_buf`, `to_bson`, `to_document`, `from_bson`, `from_document`, and with options; `from_slice`, `from_reader`, and lossy; `FieldShapes`, `StructFields`, `add_field`, `struct_datum`, `VariantShapes`, `unit_variant`, `newtype_variant`, `is_unit_variant`, `newtype_value` and `not_fitting` for their impls; `HumanReadable`, `Utf8LossyDeserialization`, the modules of `bson_helpers` and the second names of their calls |
 //! | both at once | `recast`, `recast_utf8_lossy`, `recast_to_buf`, `recast_by_tree` |
 //! | the shape of documents | `infer` |
-//! | whether what is written at one shape is read at another | `check` and `Verdict` |
+//! | whether what is written at one shape is read at another | `check` and `Verdict`; `differences`, `Difference` and `Reason` for each pair of parts that does not pass |
 //! | trees | `Bson`, `Document` with `KeySeed`, `Iter`, `Keys` and `IntoIter`, and the types of values, such as `ObjectId`, `DateTime` and `Binary`; `read_value` and `Met` to read from one by the rules for bytes |
 //! | documents in their bytes | `RawDocument`, `RawArray`, `RawElement`, `RawIter`, `RawBsonRef`, `Unjudged`; `RawDocumentBuf`, `RawArrayBuf` to own the bytes; `RawValue`, a value by its kind and bytes, of `raw_from_element` and `raw_from_bson` |
 //! | files of documents | `RawDocuments`; `migrate`, `Migration`, `Refused`, `lines_of` |
@@ -31,13 +31,14 @@
 //! # Types of one's own
 //!
 //! A value of a type with the traits `Serialize` and `Deserialize` is written and read as a whole. `Cat` is a struct of a name and an age, `Person` one of a name, an age and a vector
-//! of `Pet`, an enum; `tools/derive.py` writes the impls of such types, with nothing to prove by hand (docs/USING.md). What `from_slice` reads from what `to_vec` wrote is the value
-//! again: `laws::law_round_trip` says so.
+//! of `Pet`, an enum; `tools/derive.py` writes the impls of such types, with nothing to prove by hand (docs/USING.md). What `from_slice` reads from what `to_vec` wrote has the
+//! contents of the value again, and is `==` to it: `laws::law_round_trip` and `laws::law_round_trip_equal` say so. `Pedigree` holds itself, as a tree does: its shape is a definition that
+//! refers to itself, and its impls, in `bson_example_types/src/pedigree.rt`, are written by hand.
 //!
 //! `bson_example_types/src/own_types.rt`:
 //!
 //! ```rust
-//! use crate::{Cat, Person};
+//! use crate::{Cat, Pedigree, Person};
 //! use bson::{Document, de, from_document, from_slice, ser, to_document, to_vec};
 //! use std::alloc::Global;
 //!
@@ -69,6 +70,16 @@
 //! /// The person with pets that a document in memory is.
 //! pub fn household_in(alloc: Global, document: Document) -> de::Result<Person> {
 //!     from_document(alloc, document)
+//! }
+//!
+//! /// The bytes of the document that a pedigree is, as `{Bred: [{Founder: 1}, {Founder: 2}]}`.
+//! pub fn pedigree_bytes(alloc: Global, pedigree: &Pedigree) -> ser::Result<Vec<u8>> {
+//!     to_vec(alloc, pedigree)
+//! }
+//!
+//! /// The pedigree that the bytes of a document are.
+//! pub fn pedigree_of(alloc: Global, bytes: &[u8]) -> de::Result<Pedigree> {
+//!     from_slice(alloc, bytes)
 //! }
 //! ```
 //!
@@ -520,6 +531,9 @@ pub use bson_de_tree::from_document_with_options_at;
 pub use bson_evolve_check::CheckError;
 pub use bson_evolve_check::Verdict;
 pub use bson_evolve_check::check;
+pub use bson_evolve_differences::Difference;
+pub use bson_evolve_differences::Reason;
+pub use bson_evolve_differences::differences;
 pub use bson_evolve_run::CheckStatus;
 pub use bson_evolve_run::run_check;
 pub use bson_helpers::HumanReadable;
@@ -607,6 +621,7 @@ pub use bson_recasting::recast_to_buf;
 pub use bson_recasting::recast_utf8_lossy;
 pub use bson_reserved as reserved;
 pub use bson_ser_parts::DocumentWriter;
+pub use bson_ser_parts::ValueWriter;
 pub use bson_ser_parts::VariantWriter;
 pub use bson_ser_stream::to_buf;
 pub use bson_ser_stream::to_vec_at;
@@ -625,7 +640,6 @@ pub use bson_ser_tree::to_bson_at;
 pub use bson_ser_tree::to_bson_with_options_at;
 pub use bson_ser_tree::to_document_at;
 pub use bson_ser_tree::to_document_with_options_at;
-pub use bson_ser_value::ValueWriter;
 pub use bson_shape::FieldShape;
 pub use bson_shape::Form;
 pub use bson_shape::Leaf;
@@ -656,6 +670,7 @@ pub use bson_typed_trees::to_bson_with_options;
 pub use bson_typed_trees::to_document;
 pub use bson_typed_trees::to_document_with_options;
 pub use bson_types::Deserialize;
+pub use bson_types::EqualByContents;
 pub use bson_types::NeverNull;
 pub use bson_types::RoundTrip;
 pub use bson_types::Serialize;

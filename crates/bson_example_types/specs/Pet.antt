@@ -1,5 +1,5 @@
 -- What a `Pet` is written as, read from and contains. Source: serde's data model.
-use Rattle.std.specs.Prelude.{refl, codes}
+use Rattle.std.specs.Prelude.{◌≡◌, Bool, true, refl, codes}
 use Rattle.std.proofs.Common.{ap}
 use Rattle.bson.specs.Outcome.{result_map}
 use Rattle.bson.specs.Form.{Form, Variants}
@@ -52,3 +52,12 @@ pet_returns (cases.Cat x) h =
 pub pet_not_null : (pet : Pet) → IsNeverNull (written_pet pet)
 pet_not_null cases.Stray = unit_variant_not_null (codes "Stray")
 pet_not_null (cases.Cat x) = newtype_variant_not_null (codes "Cat") (written_cat x)
+
+-- Two values are `==` where their contents are equal, if those of each variant are.
+pub pet_equal : (E : Pet → Pet → Bool)
+    → E cases.Stray cases.Stray ≡ true
+    → ((x y : _) → let p : Pet = cases.Cat x in let q : Pet = cases.Cat y in cat_contents x ≡ cat_contents y → E p q ≡ true)
+    → (x y : Pet) → pet_contents x ≡ pet_contents y → E x y ≡ true
+pet_equal E law-Stray law-Cat cases.Stray cases.Stray e = law-Stray
+pet_equal E law-Stray law-Cat (cases.Cat x) (cases.Cat y) e = law-Cat x y cc
+pet_equal E law-Stray law-Cat x y e = absurd cc

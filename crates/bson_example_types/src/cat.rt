@@ -1,6 +1,6 @@
 use bson::{
-    Datum, Deserialize, FieldShapes, NeverNull, RoundTrip, Serialize, Shape, ShapeError,
-    StructFields, add_field, de, ser, struct_datum,
+    Datum, Deserialize, EqualByContents, FieldShapes, NeverNull, RoundTrip, Serialize, Shape,
+    ShapeError, StructFields, add_field, de, ser, struct_datum,
 };
 use std::alloc::Global;
 
@@ -70,4 +70,10 @@ impl<'de> NeverNull<'de> for Cat {
     ghost use Rattle.bson_example_types.specs.Cat.{cat_not_null};
 
     ghost not_null = { λ cat _. cat_not_null cat };
+}
+
+impl<'de> EqualByContents<'de> for Cat {
+    ghost use Rattle.bson.specs.Equal.{int_equal, string_equal, and_equal};
+
+    ghost equal = { λ x y e. and_equal _ _ (string_equal x.name y.name (λ i. (e i).0)) (int_equal x.age y.age (λ i. (e i).1)) };
 }

@@ -1,7 +1,7 @@
 use crate::pet::Pet;
 use bson::{
-    Datum, Deserialize, FieldShapes, NeverNull, RoundTrip, Serialize, Shape, ShapeError,
-    StructFields, add_field, de, ser, struct_datum,
+    Datum, Deserialize, EqualByContents, FieldShapes, NeverNull, RoundTrip, Serialize, Shape,
+    ShapeError, StructFields, add_field, de, ser, struct_datum,
 };
 use std::alloc::Global;
 
@@ -77,4 +77,12 @@ impl<'de> NeverNull<'de> for Person {
     ghost use Rattle.bson_example_types.specs.Person.{person_not_null};
 
     ghost not_null = { λ person _. person_not_null person };
+}
+
+impl<'de> EqualByContents<'de> for Person {
+    ghost use Rattle.std.specs.Prelude.{refl};
+    ghost use Rattle.bson.specs.Equal.{int_equal, string_equal, and_equal, items_equal};
+    ghost use Rattle.bson_example_types.specs.Pet.{pet_contents, pet_equal};
+
+    ghost equal = { λ x y e. and_equal _ _ (string_equal x.name y.name (λ i. (e i).0)) (and_equal _ _ (int_equal x.age y.age (λ i. (e i).1.0)) (items_equal pet_contents _ (λ x0 y0 e0. pet_equal ⟦<crate::pet::Pet as PartialEq>⟧.eq refl (λ x0 y0 e0. and_equal _ _ (string_equal x0.name y0.name (λ i. (e0 i).0)) (int_equal x0.age y0.age (λ i. (e0 i).1))) x0 y0 e0) x.pets.items y.pets.items (λ i. (e i).1.1))) };
 }

@@ -5,12 +5,14 @@
 mod cat;
 mod household;
 mod own_types;
+mod pedigree;
 mod pet;
 mod printing;
 
 use bson_lines::Lines;
 pub use cat::Cat;
 pub use household::Person;
+pub use pedigree::Pedigree;
 pub use pet::Pet;
 use std::io;
 

@@ -1,4 +1,4 @@
-use crate::{Cat, Person};
+use crate::{Cat, Pedigree, Person};
 use bson::{Document, de, from_document, from_slice, ser, to_document, to_vec};
 use std::alloc::Global;
 
@@ -30,4 +30,14 @@ pub fn household_document(alloc: Global, person: &Person) -> ser::Result<Documen
 /// The person with pets that a document in memory is.
 pub fn household_in(alloc: Global, document: Document) -> de::Result<Person> {
     from_document(alloc, document)
+}
+
+/// The bytes of the document that a pedigree is, as `{Bred: [{Founder: 1}, {Founder: 2}]}`.
+pub fn pedigree_bytes(alloc: Global, pedigree: &Pedigree) -> ser::Result<Vec<u8>> {
+    to_vec(alloc, pedigree)
+}
+
+/// The pedigree that the bytes of a document are.
+pub fn pedigree_of(alloc: Global, bytes: &[u8]) -> de::Result<Pedigree> {
+    from_slice(alloc, bytes)
 }

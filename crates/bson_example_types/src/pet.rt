@@ -1,7 +1,8 @@
 use crate::cat::Cat;
 use bson::{
-    Datum, Deserialize, NeverNull, RoundTrip, Serialize, Shape, ShapeError, VariantShapes, de,
-    is_unit_variant, newtype_value, newtype_variant, not_fitting, ser, unit_variant,
+    Datum, Deserialize, EqualByContents, NeverNull, RoundTrip, Serialize, Shape, ShapeError,
+    VariantShapes, de, is_unit_variant, newtype_value, newtype_variant, not_fitting, ser,
+    unit_variant,
 };
 use std::alloc::Global;
 
@@ -83,4 +84,12 @@ impl<'de> NeverNull<'de> for Pet {
     ghost use Rattle.bson_example_types.specs.Pet.{pet_not_null};
 
     ghost not_null = { λ pet _. pet_not_null pet };
+}
+
+impl<'de> EqualByContents<'de> for Pet {
+    ghost use Rattle.std.specs.Prelude.{refl};
+    ghost use Rattle.bson.specs.Equal.{int_equal, string_equal, and_equal};
+    ghost use Rattle.bson_example_types.specs.Pet.{pet_equal};
+
+    ghost equal = { λ x y e. pet_equal ⟦<crate::pet::Pet as PartialEq>⟧.eq refl (λ x0 y0 e0. and_equal _ _ (string_equal x0.name y0.name (λ i. (e0 i).0)) (int_equal x0.age y0.age (λ i. (e0 i).1))) x y e };
 }

@@ -1,8 +1,9 @@
-// What the examples return, for a cat and for a person with two pets.
+// What the examples return, for a cat, for a person with two pets and for a pedigree of three cats.
 use crate::own_types::{
     cat_bytes, cat_of, household_bytes, household_document, household_in, household_of,
+    pedigree_bytes, pedigree_of,
 };
-use crate::{Cat, Person, Pet};
+use crate::{Cat, Pedigree, Person, Pet};
 use bson_lines::Lines;
 use std::alloc::{AllocError, Global};
 
@@ -26,6 +27,11 @@ fn jon(alloc: Global) -> Result<Person, AllocError> {
         age: 30,
         pets: pets(alloc)?,
     })
+}
+
+/// A cat of two founders.
+fn kitten(alloc: Global) -> Result<Pedigree, AllocError> {
+    Pedigree::of(alloc, Pedigree::Founder(1), Pedigree::Founder(2))
 }
 
 /// Adds the bytes of a cat, and the cat that is read of them.
@@ -61,7 +67,18 @@ fn add_household(lines: &mut Lines, alloc: Global, person: &Person) {
     add_again(lines, alloc, person);
 }
 
-/// A cat and a person are written and read.
+/// Adds the bytes of a pedigree, and the pedigree that is read of them.
+fn add_pedigree(lines: &mut Lines, alloc: Global, pedigree: &Pedigree) {
+    match pedigree_bytes(alloc, pedigree) {
+        Ok(bytes) => {
+            lines.hex("pedigree_bytes", &bytes);
+            lines.made("pedigree_of", pedigree_of(alloc, &bytes));
+        }
+        Err(error) => lines.text("no pedigree_bytes", &error),
+    }
+}
+
+/// A cat, a person and a pedigree are written and read.
 pub fn add_all(lines: &mut Lines, alloc: Global) {
     match garfield(alloc) {
         Ok(cat) => add_cat(lines, alloc, &cat),
@@ -70,5 +87,9 @@ pub fn add_all(lines: &mut Lines, alloc: Global) {
     match jon(alloc) {
         Ok(person) => add_household(lines, alloc, &person),
         Err(error) => lines.text("no person", &error),
+    }
+    match kitten(alloc) {
+        Ok(pedigree) => add_pedigree(lines, alloc, &pedigree),
+        Err(error) => lines.text("no pedigree", &error),
     }
 }

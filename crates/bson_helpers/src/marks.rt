@@ -7,7 +7,8 @@ use bson_datum::Datum;
 use bson_growing::boxed;
 use bson_shape::{Shape, ShapeError};
 use bson_traits::{
-    Deserialize, NeverNull, RoundTrip, Serialize, lossy_shape, not_fitting, readable_shape, refuse,
+    Deserialize, EqualByContents, NeverNull, RoundTrip, Serialize, lossy_shape, not_fitting,
+    readable_shape, refuse,
 };
 use bson_values::{Text, de, ser};
 use std::alloc::{AllocError, Global};
@@ -60,6 +61,10 @@ impl<'de, T: Deserialize<'de>> Deserialize<'de> for HumanReadable<T> {
     }
 }
 
+impl<'de, T: EqualByContents<'de>> EqualByContents<'de> for HumanReadable<T> {
+    ghost equal = { λ x y e. T.equal x.0 y.0 e };
+}
+
 impl<T: Serialize> Serialize for Utf8LossyDeserialization<T> {
     ghost written = { λ x. T.written x.0 };
 
@@ -103,6 +108,10 @@ impl<'de, T: RoundTrip<'de>> RoundTrip<'de> for Utf8LossyDeserialization<T> {
 
 impl<'de, T: NeverNull<'de>> NeverNull<'de> for Utf8LossyDeserialization<T> {
     ghost not_null = { λ x h. T.not_null x.0 h };
+}
+
+impl<'de, T: EqualByContents<'de>> EqualByContents<'de> for Utf8LossyDeserialization<T> {
+    ghost equal = { λ x y e. T.equal x.0 y.0 e };
 }
 
 // The newtype in which a value is written for a human reader.

@@ -8,9 +8,9 @@ use Rattle.bson_values.specs.declared.wrapper.Wrapper.{Wrapper}
 use Rattle.bson_laws.specs.FirstKeys as keys
 use Rattle.bson_laws.specs.FirstKeys.{first_key}
 use Rattle.bson_laws.specs.Assembled.{stays, becomes, of_body, by_first_key, by_key, looked_at, built_pairs, after_code}
-use Rattle.bson_raw_builder.specs.FirstKeyView.{said_by, said_of}
-use Rattle.bson_raw_builder.specs.Putting.{is_body, form_of, body_built, code_built}
-use Rattle.bson_raw_builder.specs.declared.first_key.FirstKey.TheVariants.{Body, Code, Ordinary}
+use Rattle.bson_raw_parts.specs.FirstKeyView.{said_by, said_of}
+use Rattle.bson_raw_parts.specs.Putting.{is_body, form_of, body_built, code_built}
+use Rattle.bson_raw_parts.specs.declared.first_keys.FirstKey.TheVariants.{Body, Code, Ordinary}
 
 body_said : (w v : Wrapper) (k : keys.FirstKey) → said_by v k ≡ Body w → (is_body k ≡ true) × (v ≡ w)
 body_said w v (keys.body form) e = (refl, cc)

@@ -1,9 +1,7 @@
 pub mod Putting
 pub mod FirstKeys
-pub mod Rawless
 pub mod RawTrees
 pub mod RawLeaves
 pub mod OpenedPairs
-pub mod BuiltValues
 pub mod WrappedIds
 pub mod ReadIds

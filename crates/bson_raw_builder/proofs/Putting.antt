@@ -17,7 +17,7 @@ use Rattle.bson_values.specs.Cause.{Cause, bad_body, zero_byte}
 use Rattle.bson_values.specs.Refusal.{ReadFault, unreadable, Failure, no_memory, bare}
 use Rattle.bson_values.specs.declared.wrapper.Wrapper.TheVariants.{Code}
 use Rattle.bson_laws.specs.Assembled.{Building, unless, one_level, Looked, stays, becomes, looked_tree, under_key, with_pair, with_scope, within_limit}
-use Rattle.bson_raw_builder.specs.Putting.{RefusesFor, with_value, looked_kind, with_looked, whole_of}
+use Rattle.bson_raw_parts.specs.Putting.{RefusesFor, with_value, looked_kind, with_looked, whole_of}
 
 -- ---- refusals
 

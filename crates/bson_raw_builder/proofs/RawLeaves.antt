@@ -41,7 +41,8 @@ use Rattle.bson_met.specs.declared.value.Value as met
 use Rattle.bson_met.specs.declared.value.Value.TheVariants as values
 use Rattle.bson_met.specs.declared.value.Value.TheVariants.{Document, Array}
 use Rattle.bson_met.proofs.Refusals.{StopsAs}
-use Rattle.bson_raw_builder.specs.RawTreeView.{IsRaw, raw_made, raw_at, or_not_borrowed, scope_tree, scoped_expected}
+use Rattle.bson_raw_parts.specs.BuiltView.{raw_made}
+use Rattle.bson_raw_builder.specs.RawTreeView.{IsRaw, raw_at, or_not_borrowed, scope_tree, scoped_expected}
 use Rattle.bson_raw_builder.proofs.RawTrees.{reading_is, whole_tree}
 
 -- ---- leaves

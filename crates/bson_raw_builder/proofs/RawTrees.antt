@@ -19,12 +19,12 @@ use Rattle.bson_laws.specs.TreeRaw.{held_whole, opened_pairs, as_reading, built_
 use Rattle.bson_met.specs.ContainerView.{is_opening, array_whole_at}
 use Rattle.bson_met.specs.declared.containers.ArrayPlace.{ArrayPlace}
 use Rattle.bson_met.specs.declared.containers.ArrayPlace.TheVariants as arrays
-use Rattle.bson_raw_builder.specs.FirstKeyView.{said_of}
-use Rattle.bson_raw_builder.specs.Putting.{body_built, code_built}
-use Rattle.bson_raw_builder.specs.RawTreeView.{IsRawless, IsWhole, IsContainer, raw_made}
-use Rattle.bson_raw_builder.specs.declared.first_key.FirstKey.TheVariants.{Body, Code, Ordinary}
+use Rattle.bson_raw_parts.specs.FirstKeyView.{said_of}
+use Rattle.bson_raw_parts.specs.Putting.{body_built, code_built}
+use Rattle.bson_raw_parts.specs.BuiltView.{IsRawless, IsWhole, IsContainer, raw_made}
+use Rattle.bson_raw_parts.specs.declared.first_keys.FirstKey.TheVariants.{Body, Code, Ordinary}
 use Rattle.bson_raw_builder.proofs.FirstKeys.{looked_body, looked_code, looked_ordinary}
-use Rattle.bson_raw_builder.proofs.Rawless.{built_rawless}
+use Rattle.bson_raw_parts.proofs.Rawless.{built_rawless}
 
 -- ---- its bytes are those of the tree
 

@@ -1,5 +1,1 @@
-pub mod RawValueView
-pub mod FirstKeyView
-pub mod BodyView
-pub mod Putting
 pub mod RawTreeView

@@ -1,12 +1,8 @@
 -- What contracts see of values of a tree at raw leaves. Source: this library's own types.
-use Rattle.std.specs.Prelude.{◌≡◌, ◌≤◌, length, Option, Some, None, Result, Ok, Err}
+use Rattle.std.specs.Prelude.{◌≡◌, Option, Some, None, Result, Ok, Err}
 use Rattle.bson_kinds.specs.Outcome.{◌>>=◌}
-use Rattle.bson_base.specs.Sound.{max_bytes}
-use Rattle.bson_kinds.specs.Text.{Bytes, Utf8}
-use Rattle.bson_base.specs.Tree as tree
-use Rattle.bson_base.specs.Tree.{Tree, Pairs, enc}
+use Rattle.bson_base.specs.Tree.{Tree, Pairs}
 use Rattle.bson_kinds.specs.declared.element_type.ElementType.{ElementType}
-use Rattle.bson_kinds.specs.declared.element_type.ElementType.TheVariants as kinds
 use Rattle.bson_rawdoc.specs.Node as node
 use Rattle.bson_rawdoc.specs.Node.{Node, ended, extended}
 use Rattle.bson_kinds.specs.Piece.{Piece}
@@ -17,16 +13,16 @@ use Rattle.bson_values.specs.Marked.{Marked}
 use Rattle.bson_values.specs.Refusal.{under}
 use Rattle.bson_values.specs.Stop.{stop_view}
 use Rattle.bson_values.specs.ErrorView.{read_fault}
-use Rattle.bson_values.specs.Value as value
 use Rattle.bson_values.specs.declared.de.Fault.{Fault}
 use Rattle.bson_values.specs.declared.stop.Stop.{Stop}
 use Rattle.bson_laws.specs.Assembled.{raw_bytes}
 use Rattle.bson_laws.specs.Judged.{Reading, refused, judged, scope_key}
 use Rattle.bson_laws.specs.TreeRaw.{held_scope, read_built, built_container, built_value, opened_tree, tree_raw_of}
 use Rattle.bson_met.specs.Gives.{RefusesAs}
-use Rattle.bson_raw_builder.specs.Putting.{code_built}
-use Rattle.bson_raw_builder.specs.RawValueView.{raw_view}
-use Rattle.bson_raw_builder.specs.declared.raw_value.RawValue.{RawValue}
+use Rattle.bson_raw_parts.specs.BuiltView.{raw_made, IsWhole}
+use Rattle.bson_raw_parts.specs.Putting.{code_built}
+use Rattle.bson_raw_parts.specs.RawValueView.{raw_view}
+use Rattle.bson_raw_parts.specs.declared.raw_value.RawValue.{RawValue}
 
 -- a leaf of documents, of arrays or of values in their bytes
 abbrev pub IsRaw : Leaf → Type 0
@@ -35,24 +31,11 @@ IsRaw RawArray = Unit {0}
 IsRaw RawBson = Unit {0}
 IsRaw l = ⊥
 
--- a document or an array at the leaf of its kind
-abbrev pub raw_made : ElementType → Piece → Marked
-raw_made kinds.Array = value.raw_array
-raw_made k = value.raw_document
-
+-- a document or an array of this kind, at the leaf of its kind
 abbrev pub raw_at : ElementType → Node → Reading Marked
 raw_at k n = judged n >>= tree_raw_of k (raw_made k)
 
 -- ---- what is built
-
--- a tree that is not given by its bytes
-abbrev pub IsRawless : Tree → Type 0
-IsRawless (tree.raw k b) = ⊥
-IsRawless t = Unit {0}
-
--- such a tree of no more bytes than a document may have
-abbrev pub IsWhole : Tree → Type 0
-IsWhole t = IsRawless t × (length (enc t) ≤ max_bytes)
 
 -- the kind and the bytes of what is built, or its refusal; or memory ran out
 abbrev pub IsBuilt : Result RawValue (Stop Fault) → Reading Tree → Type 0
@@ -70,18 +53,6 @@ as_value r = r >>= built_value
 -- a value in a document that opening makes
 abbrev pub opened_expected : Node → Reading Tree
 opened_expected n = judged n >>= opened_tree
-
--- ---- values in their bytes
-
--- the kind of a document or of an array
-abbrev pub IsContainer : ElementType → Type 0
-IsContainer kinds.EmbeddedDocument = Unit {0}
-IsContainer kinds.Array = Unit {0}
-IsContainer k = ⊥
-
--- the bytes of a code with a scope, whose text is this
-abbrev pub IsScopedCode : Utf8 → Bytes → Type 0
-IsScopedCode code b = (scope : Pairs) × (b ≡ enc (tree.javascript_code_with_scope code scope))
 
 -- the value of a document whose first key is `$code`, from the value of this key
 abbrev pub IsCodeBuilt : Tree → RawValue → Type 0

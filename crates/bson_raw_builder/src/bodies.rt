@@ -5,50 +5,20 @@ ghost use Rattle.bson_base.specs.BsonView.{tree_of, pairs_of};
 ghost use Rattle.bson_base.specs.Folded.{at};
 ghost use Rattle.bson_laws.specs.Assembled.{plain};
 ghost use Rattle.bson_laws.specs.FirstKeys.{first_key, id_in};
-ghost use Rattle.bson_raw_builder.specs.BodyView.{body_tree};
-ghost use Rattle.bson_raw_builder.specs.Putting.{Puts, is_body, stands_for, body_built};
+ghost use Rattle.bson_raw_parts.specs.BodyView.{body_tree};
+ghost use Rattle.bson_raw_parts.specs.Putting.{Puts, is_body, stands_for, body_built};
 
-use crate::forms::{
-    byte_at, decimal_of, document_of, id_given, id_in, is_boolean, is_in_int32, number_of,
-    plain_bytes_at, text_at, text_of, uint32_at,
-};
-use crate::refused::bad_body;
-use crate::scalars::{
-    put_binary, put_date_time, put_db_pointer, put_decimal128, put_object_id,
-    put_regular_expression, put_symbol, put_timestamp,
-};
-use bson_base::{Bson, DateTime, Decimal128, Document, ObjectId, Timestamp};
+use crate::ids::id_in;
+use bson_base::{Bson, DateTime, Document, ObjectId, Timestamp};
 use bson_kinds::ElementType;
+use bson_raw_parts::{
+    Body, bad_body, byte_at, decimal_of, document_of, id_given, is_boolean, is_in_int32, number_of,
+    plain_bytes_at, put_binary, put_date_time, put_db_pointer, put_decimal128, put_object_id,
+    put_regular_expression, put_symbol, put_timestamp, text_at, text_of, uint32_at,
+};
 use bson_values::Wrapper;
 use bson_values::de::Result;
 use std::alloc::{AllocError, Global};
-
-/// What the value of a document's first key stands for. Texts and bytes are those of the value.
-#[derive(Clone, Copy)]
-pub(crate) enum Body<'a> {
-    /// An ObjectId.
-    ObjectId(ObjectId),
-    /// A text of the kind Symbol.
-    Symbol(&'a str),
-    /// A decimal number.
-    Decimal128(Decimal128),
-    /// The pattern and the options of a regular expression.
-    RegularExpression(&'a str, &'a str),
-    /// The kind without a value.
-    Undefined,
-    /// The subtype and the bytes of a binary.
-    Binary(u8, &'a [u8]),
-    /// A time.
-    DateTime(DateTime),
-    /// A timestamp.
-    Timestamp(Timestamp),
-    /// The value that is less than every other.
-    MinKey,
-    /// The value that is greater than every other.
-    MaxKey,
-    /// The namespace and the id of a reference to a document.
-    DbPointer(&'a str, ObjectId),
-}
 
 /// Appends what the value of a document's first key stands for, and answers its kind.
 ///

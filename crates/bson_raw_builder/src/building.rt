@@ -5,22 +5,19 @@ ghost use Rattle.bson_base.specs.BsonView.{tree_of, trees_of, pairs_of};
 ghost use Rattle.bson_base.specs.Tree as trees;
 ghost use Rattle.bson_base.specs.Tree.{element, kind, enc};
 ghost use Rattle.bson_laws.specs.Assembled.{assembled, built, built_pairs, built_trees, looked_at, one_level, under_key, with_scope};
-ghost use Rattle.bson_raw_builder.specs.Putting.{Gives, Puts, PutsLooked, PutsPart, code_built, whole_of};
-ghost use Rattle.bson_raw_builder.specs.RawValueView.{raw_view};
+ghost use Rattle.bson_raw_parts.specs.Putting.{Gives, Puts, PutsLooked, PutsPart, code_built, whole_of};
+ghost use Rattle.bson_raw_parts.specs.RawValueView.{raw_view};
 
 use crate::bodies::put_body;
-use crate::first_key::{FirstKey, first_key};
-use crate::forms::{document_of, text_of};
-use crate::raw_value::RawValue;
-use crate::refused::{bad_body, refused};
-use crate::scalars::{
-    append, append_closed, append_text, put_binary, put_boolean, put_code, put_date_time,
-    put_db_pointer, put_decimal128, put_double, put_int32, put_int64, put_object_id,
-    put_regular_expression, put_string, put_symbol, put_timestamp, set_kind, set_length,
-};
 use bson_base::{Bson, Document, Iter, MAX_NESTING_LEVEL, has_zero};
 use bson_io::MOST;
 use bson_kinds::ElementType;
+use bson_raw_parts::{
+    FirstKey, RawValue, append, append_closed, append_text, bad_body, document_of, first_key,
+    put_binary, put_boolean, put_code, put_date_time, put_db_pointer, put_decimal128, put_double,
+    put_int32, put_int64, put_object_id, put_regular_expression, put_string, put_symbol,
+    put_timestamp, refused, set_kind, set_length, text_of,
+};
 use bson_values::de::Result;
 use bson_values::{ByteStr, Cause, Wrapper};
 use std::alloc::{AllocError, Global};

@@ -3,15 +3,10 @@
 
 mod bodies;
 mod building;
-mod first_key;
-mod forms;
-mod raw_value;
+mod ids;
 mod reading;
-mod refused;
-mod scalars;
-mod values;
 
+pub use bson_raw_parts::{RawValue, raw_from_element};
 pub use bson_trees::read_extended;
 pub use building::{raw_from_bson, raw_of_bson};
-pub use raw_value::{RawValue, raw_from_element};
 pub use reading::read_raw_tree;

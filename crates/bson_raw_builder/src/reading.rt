@@ -19,21 +19,21 @@ ghost use Rattle.bson_met.specs.Gives.{Reaches};
 ghost use Rattle.bson_met.specs.OpenedView.{extended_view, scope_node};
 ghost use Rattle.bson_met.specs.PieceView.{met_text};
 ghost use Rattle.bson_met.specs.ValueView.{value_view};
-ghost use Rattle.bson_raw_builder.specs.Putting.{Gives, body_built, code_built, is_body};
-ghost use Rattle.bson_raw_builder.specs.RawTreeView.{IsBuilt, IsCodeBuilt, IsContainer, IsRaw, IsRawless, IsWhole, as_value, container_expected, opened_expected, raw_at, scope_tree, scoped_expected};
-ghost use Rattle.bson_raw_builder.specs.RawValueView.{raw_view};
+ghost use Rattle.bson_raw_parts.specs.Putting.{Gives, body_built, code_built, is_body};
+ghost use Rattle.bson_raw_parts.specs.BuiltView.{IsContainer, IsRawless, IsWhole};
+ghost use Rattle.bson_raw_builder.specs.RawTreeView.{IsBuilt, IsCodeBuilt, IsRaw, as_value, container_expected, opened_expected, raw_at, scope_tree, scoped_expected};
+ghost use Rattle.bson_raw_parts.specs.RawValueView.{raw_view};
 
 use crate::bodies::body_of;
 use crate::building::{raw_of_code, raw_of_document, raw_of_values};
-use crate::first_key::{FirstKey, first_key};
-use crate::forms::text_of;
-use crate::raw_value::RawValue;
-use crate::values::{body_value, code_value, container_value, scoped_value};
 use bson_base::{Binary, BinarySubtype, Bson, Document};
 use bson_datum::Datum;
 use bson_kinds::ElementType;
 use bson_met::{
     Elements, Extended, Met, MetArray, MetDocument, MetText, Reading, Scope, Value, refused,
+};
+use bson_raw_parts::{
+    FirstKey, RawValue, body_value, code_value, container_value, first_key, scoped_value, text_of,
 };
 use bson_shape::Leaf;
 use bson_trees::read_extended;

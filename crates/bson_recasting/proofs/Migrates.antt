@@ -10,12 +10,12 @@ use Rattle.bson_shape.specs.Form.{Form, lossy, no_fields}
 use Rattle.bson_shape.specs.Makers.{IsShape}
 use Rattle.bson_values.specs.Value.{Value}
 use Rattle.bson_values.specs.Cause.{too_long}
-use Rattle.bson_values.specs.Refusal.{ReadFault, WriteFault, unwritable, here, Failure, bare, placed}
+use Rattle.bson_values.specs.Refusal.{ReadFault, WriteFault, unwritable, here, Failure}
 use Rattle.bson_values.specs.ErrorView.{read_failure, write_failure}
 use Rattle.bson_laws.specs.Means.{means}
 use Rattle.bson_laws.specs.Plain.{OwnsTexts, IsPlain}
 use Rattle.bson_laws.specs.Reads.{reads_document}
-use Rattle.bson_laws.specs.Spell.{Writing, IsWrittenUnlessLarge, IsNumber, HoldsNumbers, spell_document, size}
+use Rattle.bson_laws.specs.Spell.{Writing, IsWrittenUnlessLarge, HoldsNumbers, spell_document, size}
 use Rattle.bson_laws.specs.Recursive.{view}
 use Rattle.bson_laws.specs.Writable.{IsWritable}
 use Rattle.bson_laws.proofs.AtShapes.{views_reads, document_written, document_numbers}
@@ -25,8 +25,8 @@ use Rattle.bson_de_raw.proofs.Lossy.{lossy_numbers, lossy_written, lossy_views_r
 use Rattle.bson_ser_stream.specs.Writing.{IsExpected, too_long_failure}
 use Rattle.bson_tree_recast.specs.declared.error.RecastError.{RecastError}
 use Rattle.bson_tree_recast.specs.declared.error.RecastError.TheVariants.{Read, Write, NoMemory}
-use Rattle.bson_tree_recast.specs.Recast.{writes, unread, written, recast_read, recast_of, Unwritten, IsRecast}
-use Rattle.bson_recasting.specs.Recasting.{lossy_recast_of, GivesBytes, IsForSize, IsForNoNumber, IfUnwritten}
+use Rattle.bson_tree_recast.specs.Recast.{writes, unread, written, recast_read, recast_of, Unwritten, IfUnwritten, IsForNoNumber, IsRecast}
+use Rattle.bson_recasting.specs.Recasting.{lossy_recast_of, GivesBytes, IsForSize}
 
 -- what is read as a value that means a sound document
 module _ (answer : Result Value (Failure ReadFault)) (u : Tree) (d : Value) (read : answer ≡ Ok d) (mean : means d ≡ Some u) (clean : IsSound u) where
@@ -115,10 +115,7 @@ lossy_for_size s bytes are shape writable r h = of_each (reads_lossy s bytes) (I
 
 expected_for_none : (w : Writing Tree) (f : Failure WriteFault) → HoldsNumbers w → IsExpected w f → IsForNoNumber f
 expected_for_none (Ok t) f u expected = absurd expected
-expected_for_none (Err r) f u expected = λ path fault is n.
-    let both : placed r.path (bare r.fault) ≡ placed path (bare fault) = sym expected ∙ is in
-    let same : r.fault ≡ fault = cc in
-    u (subst IsNumber (sym same) n)
+expected_for_none (Err r) f u expected = subst IsForNoNumber (sym expected) u
 
 -- what was read has no such number
 abbrev HasNumbers : Result Value (Failure ReadFault) → Type 0

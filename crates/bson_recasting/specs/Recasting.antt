@@ -6,12 +6,12 @@ use Rattle.bson_base.specs.Sound.{max_bytes}
 use Rattle.bson_shape.specs.Form.{Form}
 use Rattle.bson_values.specs.Value.{Value}
 use Rattle.bson_values.specs.Refusal.{Path, WriteFault, Failure, bare, placed}
-use Rattle.bson_values.specs.ErrorView.{write_failure}
 use Rattle.bson_de_raw.specs.ReadsLossy.{reads_lossy}
 use Rattle.bson_laws.specs.Reads.{reads_document}
-use Rattle.bson_laws.specs.Spell.{size, IsTooLarge, IsNumber}
+use Rattle.bson_laws.specs.Spell.{size, IsTooLarge}
 use Rattle.bson_ser_stream.specs.Writing.{too_long_failure}
 use Rattle.bson_tree_recast.specs.Recast.{Recast, writes, recast_read, IsRefusal}
+pub use Rattle.bson_tree_recast.specs.Recast.{IfUnwritten, IsForNoNumber}
 use Rattle.bson_tree_recast.specs.declared.error.RecastError.{RecastError}
 use Rattle.bson_tree_recast.specs.declared.error.RecastError.TheVariants.{Read, Write, NoMemory}
 
@@ -36,14 +36,3 @@ abbrev pub IsForSize : Form → Bytes → Failure WriteFault → Type 0
 IsForSize s bytes f =
     ((f ≡ too_long_failure) × ((d : Value) → reads_document s bytes ≡ Ok d → max_bytes < size d))
     ⊎ ((path : Path) × (fault : WriteFault) × (f ≡ placed path (bare fault)) × IsTooLarge fault)
-
--- the failure, with its path, is not `UnsignedIntegerExceededRange`, the one for a number that no Int64 holds
-abbrev pub IsForNoNumber : Failure WriteFault → Type 0
-IsForNoNumber f = (path : Path) (fault : WriteFault) → f ≡ placed path (bare fault) → IsNumber fault → ⊥
-
--- a failure of the writer, where that is the answer, has this property
-abbrev pub IfUnwritten : (Failure WriteFault → Type 0) → Result (Vec ℕ) RecastError → Type 0
-IfUnwritten P (Ok v) = Unit {0}
-IfUnwritten P (Err (Read e)) = Unit {0}
-IfUnwritten P (Err (Write e)) = P (write_failure e)
-IfUnwritten P (Err NoMemory) = Unit {0}

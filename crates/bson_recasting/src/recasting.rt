@@ -12,8 +12,8 @@ ghost use Rattle.bson_laws.specs.Settled.{IsSettled};
 ghost use Rattle.bson_laws.specs.Writable.{IsWritable};
 ghost use Rattle.bson_shape.specs.Form.{lossy, no_fields};
 ghost use Rattle.bson_de_raw.specs.ReadsLossy.{reads_lossy};
-ghost use Rattle.bson_recasting.specs.Recasting.{lossy_recast_of, IsAppended, GivesBytes, IsForSize, IsForNoNumber, IfUnwritten};
-ghost use Rattle.bson_tree_recast.specs.Recast.{recast_of, recast_read, writes, IsRecast};
+ghost use Rattle.bson_recasting.specs.Recasting.{lossy_recast_of, IsAppended, GivesBytes, IsForSize};
+ghost use Rattle.bson_tree_recast.specs.Recast.{recast_of, recast_read, writes, IfUnwritten, IsForNoNumber, IsRecast};
 
 use bson_datum::Datum;
 use bson_de_raw::{from_slice_at, from_slice_utf8_lossy_at};

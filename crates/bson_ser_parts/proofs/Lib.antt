@@ -6,3 +6,11 @@ pub mod DocumentCalls
 pub mod Paired
 pub mod Varied
 pub mod VariantCalls
+pub mod Base64Groups
+pub mod Places
+pub mod Begun
+pub mod Behind
+pub mod Lone
+pub mod Ways
+pub mod Pushed
+pub mod ValueCalls

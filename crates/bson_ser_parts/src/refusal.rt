@@ -13,7 +13,7 @@ use bson_writing::Halt;
 use std::alloc::Global;
 
 /// Takes back what was appended from a place on, and says why.
-pub fn take_back(out: &mut Out, start: usize, halt: Halt) -> Error
+pub(crate) fn take_back(out: &mut Out, start: usize, halt: Halt) -> Error
     ensures cut { out.new.bytes ≡ take start out.old.bytes }
     ensures placed { IsPlaced (halt_view halt) (write_failure result) }
 {
@@ -22,7 +22,7 @@ pub fn take_back(out: &mut Out, start: usize, halt: Halt) -> Error
 }
 
 /// The whole value is refused for this cause; or memory ran out.
-pub fn refused_for(alloc: Global, cause: Cause) -> Error
+pub(crate) fn refused_for(alloc: Global, cause: Cause) -> Error
     ensures { IsPlaced (Some (here (unwritable (cause_view cause)))) (write_failure result) }
 {
     Halt::caused(alloc, cause).into_error(alloc)
@@ -30,7 +30,7 @@ pub fn refused_for(alloc: Global, cause: Cause) -> Error
 
 /// A call of the writer was refused before; or memory ran out.
 #[cold]
-pub fn failed_before(alloc: Global) -> Error
+pub(crate) fn failed_before(alloc: Global) -> Error
     ensures { IsPlaced (Some (here (unwritable failed))) (write_failure result) }
 {
     refused_for(alloc, Cause::Failed)

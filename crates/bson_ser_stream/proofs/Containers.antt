@@ -13,30 +13,32 @@ use Rattle.bson_values.specs.Refusal.{Refusal, WriteFault}
 use Rattle.bson_io.specs.Output.{Output, Appended, patched}
 use Rattle.bson_laws.specs.Spell.{Writing, spell_items_as, spell_entries_as, spell_fields_as, enclosed_at, size_items_as, size_entries_as, size_fields_as}
 use Rattle.bson_laws.proofs.Sizes.{ok_is, length-spell_items, length-spell_entries, length-spell_fields}
-use Rattle.bson_ser_stream.specs.Writing.{with_bytes, with_tree, length_place, level_inside}
+use Rattle.bson_ser_stream.specs.Writing.{with_bytes, with_tree, length_place, level_inside, places, pair_places, tree_places, count_of}
 use Rattle.bson_writing.specs.Halting.{Halts}
 use Rattle.bson_ser_stream.specs.Halting.{Grows, Puts, Ends, EndHalts}
 use Rattle.bson_ser_stream.proofs.Growth.{Grows-trans, Grows-appended, Grows-longer}
 use Rattle.bson_ser_stream.proofs.Written.{length-with_bytes}
 use Rattle.bson_ser_stream.proofs.Halted.{unended}
-use Rattle.bson_ser_stream.proofs.Ended.{Grows-container}
+use Rattle.bson_ser_stream.proofs.Ended.{Grows-container, length-ended}
+use Rattle.bson_ser_stream.proofs.Places.{container_places}
 use Rattle.bson_writing.specs.declared.halt.Halt.{Halt}
 use Rattle.bson_values.specs.declared.stop.Stop.TheVariants.{Refused, NoMemory}
 use Rattle.bson_writing.specs.declared.halt.Halt.TheVariants.{Stopped, TooLong}
 
--- the parts of a document or an array: their bytes are what it encloses, and as many as their size says
-pub record Parts {A : Type 0} (container : A → Tree) (bytes : A → Bytes) (parts : ℕ → Writing A) (size : ℕ) : Type 0 where
+-- the parts of a document or an array: their bytes are what it encloses, and as many as their size says; it has four places more than they
+pub record Parts {A : Type 0} (container : A → Tree) (bytes : A → Bytes) (count : A → ℕ) (parts : ℕ → Writing A) (size : ℕ) : Type 0 where
   pub encloses : (x : A) → enc (container x) ≡ enclosed (bytes x)
   pub long : (levels : ℕ) (x : A) → parts levels ≡ Ok x → length (bytes x) ≡ size
+  pub more : (x : A) → places (container x) ≡ count x + 4
 
-pub Parts-fields : (readable : Bool) (fs : FieldValues) → Parts document elements (spell_fields_as readable fs) (size_fields_as readable fs)
-Parts-fields readable fs = record { encloses = λ ps. refl; long = length-spell_fields readable fs }
+pub Parts-fields : (readable : Bool) (fs : FieldValues) → Parts document elements pair_places (spell_fields_as readable fs) (size_fields_as readable fs)
+Parts-fields readable fs = record { encloses = λ ps. refl; long = length-spell_fields readable fs; more = λ ps. refl }
 
-pub Parts-entries : (readable : Bool) (es : Entries) → Parts document elements (spell_entries_as readable es) (size_entries_as readable es)
-Parts-entries readable es = record { encloses = λ ps. refl; long = length-spell_entries readable es }
+pub Parts-entries : (readable : Bool) (es : Entries) → Parts document elements pair_places (spell_entries_as readable es) (size_entries_as readable es)
+Parts-entries readable es = record { encloses = λ ps. refl; long = length-spell_entries readable es; more = λ ps. refl }
 
-pub Parts-items : (readable : Bool) (vs : Items) → Parts array (array_elements 0) (spell_items_as readable 0 vs) (size_items_as readable 0 vs)
-Parts-items readable vs = record { encloses = λ ts. refl; long = length-spell_items readable 0 vs }
+pub Parts-items : (readable : Bool) (vs : Items) → Parts array (array_elements 0) tree_places (spell_items_as readable 0 vs) (size_items_as readable 0 vs)
+Parts-items readable vs = record { encloses = λ ts. refl; long = length-spell_items readable 0 vs; more = λ ts. refl }
 
 inside : {A : Type 0} (container : A → Tree) (parts : ℕ → Writing A) (levels inner : ℕ) → level_inside levels ≡ Ok inner → enclosed_at container levels parts ≡ result_map container (parts inner)
 inside container parts zero inner h = absurd cc
@@ -65,6 +67,7 @@ halts_parts container bytes parts size old begun new levels inner s0 s1 now ente
       bytes = subst (λ d. Halts (size + 5) old.spare (with_tree old.bytes d) h) (sym (inside container parts levels inner enters)) (parts_halt container bytes size (parts inner) h old begun s0 s1 begins halts);
       fits = tt;
       grows = Grows-trans old begun new s0 s1 now (Grows-appended old begun length_place s0 s1 begins) more;
+      least = tt;
     })
 
 -- the elements behind four bytes, closed, and the length written over the four
@@ -82,7 +85,7 @@ containers container bytes old mid (Ok x) start n encloses at is e =
     let long : n ≡ length (bytes x) + 5 = omega (arith, is, at, ap length made, length-append (old ++ length_place) (bytes x), length-append old length_place) in
     ap Ok (ap (λ b. old ++ b) (encloses x) ∙ sym (closed old (bytes x) n long) ∙ (λ i. patched (made i ++ 0 ∷ []) (sym at i) (le32 n)))
 
-module _ {A : Type 0} {container : A → Tree} {bytes : A → Bytes} {parts : ℕ → Writing A} {size : ℕ} (holds : Parts container bytes parts size) (old begun mid : Output) (levels inner start s0 s1 s2 : ℕ)
+module _ {A : Type 0} {container : A → Tree} {bytes : A → Bytes} {count : A → ℕ} {parts : ℕ → Writing A} {size : ℕ} (holds : Parts container bytes count parts size) (old begun mid : Output) (levels inner start s0 s1 s2 : ℕ)
     (enters : level_inside levels ≡ Ok inner) (at : start ≡ length old.bytes) (begins : Appended old begun length_place s0 s1) (grows : Grows begun mid s1 s2) (filled : with_bytes bytes begun.bytes (parts inner) ≡ Ok mid.bytes) where
   filled_length : length mid.bytes + 1 - start ≡ size + 5
   filled_length = omega (arith, at, ap length begins.bytes, length-append old.bytes length_place, length-with_bytes bytes (parts inner) size begun.bytes mid.bytes (holds.long inner) filled)
@@ -101,12 +104,30 @@ module _ {A : Type 0} {container : A → Tree} {bytes : A → Bytes} {parts : �
       let grown = Grows-trans old begun mid s0 s1 s2 (Grows-appended old begun length_place s0 s1 begins) grows in
       unended h (size + 5) old.spare start mid _ (omega (arith, filled_length, Grows-longer old mid s0 s2 grown, at)) (omega (arith, grown.room, at)) halts
 
+  -- so many bytes of its parts are written twice
+  abbrev Least : Type 0
+  Least = s1 + length mid.bytes + count_of count (parts inner) ≤ s2 + length begun.bytes
+
+  container_least : (new : Output) (now : ℕ) → Ends mid new start s2 now → Least → s0 + length new.bytes + count_of places (enclosed_at container levels parts) ≤ now + length old.bytes
+  container_least new now ends least =
+      let spelled : count_of places (enclosed_at container levels parts) ≡ count_of places (result_map container (parts inner)) = ap (count_of places) (inside container parts levels inner enters) in
+      let four : length begun.bytes ≡ length old.bytes + 4 = ap length begins.bytes ∙ length-append old.bytes length_place in
+      let longer = Grows-longer begun mid s1 s2 grows in
+      omega (arith, spelled, container_places container count (parts inner) holds.more, least, begins.steps, ends.steps, four, length-ended mid new start s2 now (omega (arith, at, four, longer)) ends)
+
   -- a document or an array that is ended
-  pub puts_container : (its : ElementType) (new : Output) (now : ℕ) → Ends mid new start s2 now → Puts its (size + 5) (enclosed_at container levels parts) old new s0 now (Ok its)
-  puts_container its new now ends = record { kind = refl; bytes = wrote_container new now ends; fits = container_fits new now ends; grows = Grows-container old begun mid new start s0 s1 s2 now at begins grows ends }
+  pub puts_container : (its : ElementType) (new : Output) (now : ℕ) → Ends mid new start s2 now → Least → Puts its (size + 5) (enclosed_at container levels parts) old new s0 now (Ok its)
+  puts_container its new now ends least =
+      record {
+        kind = refl;
+        bytes = wrote_container new now ends;
+        fits = container_fits new now ends;
+        grows = Grows-container old begun mid new start s0 s1 s2 now at begins grows ends;
+        least = container_least new now ends least;
+      }
 
   -- one that is not
   pub halts_container : (its : ElementType) (new : Output) (now : ℕ) (r : Result ElementType Halt) (h : Halt) → r ≡ Err h → EndHalts mid start h → Grows mid new s2 now → Puts its (size + 5) (enclosed_at container levels parts) old new s0 now r
   halts_container its new now r h is halts more =
       let so_far = Grows-trans old begun mid s0 s1 s2 (Grows-appended old begun length_place s0 s1 begins) grows in
-      subst (Puts its (size + 5) (enclosed_at container levels parts) old new s0 now) (sym is) (record { kind = tt; bytes = container_halts h halts; fits = tt; grows = Grows-trans old mid new s0 s2 now so_far more })
+      subst (Puts its (size + 5) (enclosed_at container levels parts) old new s0 now) (sym is) (record { kind = tt; bytes = container_halts h halts; fits = tt; grows = Grows-trans old mid new s0 s2 now so_far more; least = tt })

@@ -39,6 +39,13 @@ pub length-patched : (bytes piece : Bytes) (at : ℕ) → at + length piece ≤ 
 length-patched bytes piece at inside =
     omega (arith, length-append (take at bytes ++ piece) (drop (at + length piece) bytes), length-append (take at bytes) piece, length-take-le at bytes (omega arith), length-drop (at + length piece) bytes)
 
+-- an end is one byte longer
+pub length-ended : (mid new : Output) (start before now : ℕ) → start + 4 ≤ length mid.bytes → Ends mid new start before now → length new.bytes ≡ length mid.bytes + 1
+length-ended mid new start before now inside ends =
+    let n : ℕ = length mid.bytes + 1 - start in
+    let closed : length (mid.bytes ++ 0 ∷ []) ≡ length mid.bytes + 1 = length-append mid.bytes (0 ∷ []) in
+    ap length ends.bytes ∙ length-patched (mid.bytes ++ 0 ∷ []) (le32 n) start (omega (arith, inside, closed, length-le32 n)) ∙ closed
+
 -- a document or an array that was begun, filled and ended was appended
 pub Grows-container : (old begun mid new : Output) (start s0 s1 s2 s3 : ℕ) → start ≡ length old.bytes → Appended old begun length_place s0 s1 → Grows begun mid s1 s2 → Ends mid new start s2 s3 → Grows old new s0 s3
 Grows-container old begun mid new start s0 s1 s2 s3 at begins grows ends =
@@ -47,7 +54,7 @@ Grows-container old begun mid new start s0 s1 s2 s3 at begins grows ends =
     let longer = Grows-longer begun mid s1 s2 grows in
     let closed : length (mid.bytes ++ 0 ∷ []) ≡ length mid.bytes + 1 = length-append mid.bytes (0 ∷ []) in
     let n : ℕ = length mid.bytes + 1 - start in
-    let long : length new.bytes ≡ length mid.bytes + 1 = ap length ends.bytes ∙ length-patched (mid.bytes ++ 0 ∷ []) (le32 n) start (omega (arith, length-le32 n)) ∙ closed in
+    let long : length new.bytes ≡ length mid.bytes + 1 = length-ended mid new start s2 s3 (omega (arith, at, four, longer)) ends in
     record {
       kept = ap (λ k. take k new.bytes) (sym at)
           ∙ ap (take start) ends.bytes

@@ -16,6 +16,7 @@ pub mod Inside
 pub mod Containers
 pub mod Arms
 pub mod Variants
+pub mod Places
 pub mod Behind
 pub mod Accepted
 pub mod Scoped

@@ -13,7 +13,7 @@ use Rattle.bson_values.specs.declared.stop.Stop.TheVariants.{Refused, NoMemory}
 use Rattle.bson_io.specs.Output as output
 use Rattle.bson_io.specs.Output.{Output}
 use Rattle.bson_laws.specs.Written.{Writing, written_size}
-use Rattle.bson_ser_stream.specs.Writing.{with_tree}
+use Rattle.bson_ser_stream.specs.Writing.{with_tree, places, count_of}
 use Rattle.bson_writing.specs.Halting.{IsOutOfMemory, IsHereOrMemory, Halts}
 use Rattle.bson_ser_stream.specs.Halting.{Grows, Puts}
 use Rattle.bson_writing.specs.declared.halt.Halt.{Halt}
@@ -47,22 +47,24 @@ refusal_halts size expected f old (Stopped NoMemory) is at = λ ok. absurd (refu
 refusal_halts size expected f old TooLong is at = absurd at
 
 module _ (its : ElementType) (size : ℕ) (expected : Writing Tree) (old new : Output) (before now : ℕ) (grows : Grows old new before now) where
-  -- the value of the definition was appended
-  pub puts_value : (t : Tree) → expected ≡ Ok t → new.bytes ≡ old.bytes ++ enc t → size ≤ max_bytes → Puts its size expected old new before now (Ok its)
-  puts_value t is made fits = record { kind = refl; bytes = ap (with_tree old.bytes) is ∙ ap Ok (sym made); fits = fits; grows = grows }
+  -- the value of the definition, which has no places, was appended
+  pub puts_value : (t : Tree) → expected ≡ Ok t → new.bytes ≡ old.bytes ++ enc t → size ≤ max_bytes → places t ≡ 0 → Puts its size expected old new before now (Ok its)
+  puts_value t is made fits none =
+      let count : count_of places expected ≡ places t = ap (count_of places) is in
+      record { kind = refl; bytes = ap (with_tree old.bytes) is ∙ ap Ok (sym made); fits = fits; grows = grows; least = omega (arith, grows.least, count, none) }
 
   -- memory ran out, and the value of the definition has no room
   pub out_of_memory : (r : Result ElementType Halt) → IsErrAnd r IsOutOfMemory → (IsOk expected → old.spare < size) → Puts its size expected old new before now r
   out_of_memory (Ok k) out short = absurd out
-  out_of_memory (Err h) out short = record { kind = tt; bytes = memory_halts size expected old h out short; fits = tt; grows = grows }
+  out_of_memory (Err h) out short = record { kind = tt; bytes = memory_halts size expected old h out short; fits = tt; grows = grows; least = tt }
 
   -- the value is refused, as the definition says
   pub puts_refusal : (f : WriteFault) (h : Halt) → expected ≡ Err (here f) → IsHereOrMemory f h → Puts its size expected old new before now (Err h)
-  puts_refusal f h is at = record { kind = tt; bytes = refusal_halts size expected f old h is at; fits = tt; grows = grows }
+  puts_refusal f h is at = record { kind = tt; bytes = refusal_halts size expected f old h is at; fits = tt; grows = grows; least = tt }
 
   -- the value has more bytes than a document may
   pub puts_too_long : max_bytes < size → Puts its size expected old new before now (Err TooLong)
-  puts_too_long long = record { kind = tt; bytes = long; fits = tt; grows = grows }
+  puts_too_long long = record { kind = tt; bytes = long; fits = tt; grows = grows; least = tt }
 
 -- the size of an answer is that of the value of the definition
 pub size_expected : (expected : Writing Tree) (t : Tree) → expected ≡ Ok t → written_size expected ≡ length (enc t)
@@ -92,5 +94,5 @@ ok_is (Err r) old new e = absurd cc
 -- an answer whose size is known where the definition gives a value
 pub puts_at : (its : ElementType) (n : ℕ) (expected : Writing Tree) (old new : Output) (before now : ℕ) (r : Result ElementType Halt) → ((t : Tree) → expected ≡ Ok t → length (enc t) ≡ n)
     → Puts its (written_size expected) expected old new before now r → Puts its n expected old new before now r
-puts_at its n expected old new before now (Ok k) long h = record { kind = h.kind; bytes = h.bytes; fits = omega (arith, h.fits, of_size expected n long (ok_is expected old.bytes new.bytes h.bytes)); grows = h.grows }
-puts_at its n expected old new before now (Err halt) long h = record { kind = tt; bytes = halts_at expected n old halt long h.bytes; fits = tt; grows = h.grows }
+puts_at its n expected old new before now (Ok k) long h = record { kind = h.kind; bytes = h.bytes; fits = omega (arith, h.fits, of_size expected n long (ok_is expected old.bytes new.bytes h.bytes)); grows = h.grows; least = h.least }
+puts_at its n expected old new before now (Err halt) long h = record { kind = tt; bytes = halts_at expected n old halt long h.bytes; fits = tt; grows = h.grows; least = tt }

@@ -1,5 +1,5 @@
 -- Code with a scope: a place for the length of all, the code, the scope, and the length over its place.
-use Rattle.std.proofs.Common.{Bool, ◌≡◌, ℕ, zero, suc, ◌+◌, ◌-◌, [], ◌++◌, length, take, drop, Some, Result, Ok, Err, refl, ap, sym, subst, ◌∙◌, append_assoc, arith}
+use Rattle.std.proofs.Common.{Bool, ◌≡◌, ℕ, zero, suc, ◌+◌, ◌-◌, ◌≤◌, [], ◌++◌, length, take, drop, Some, Result, Ok, Err, refl, ap, sym, subst, ◌∙◌, append_assoc, arith}
 use Rattle.std.specs.Prelude.{codes, IsOk}
 use Rattle.std.proofs.lemmas.List.{length-append, take_at, drop_at}
 use Rattle.bson_kinds.specs.Outcome.{result_map}
@@ -18,7 +18,7 @@ use Rattle.bson_laws.specs.Unwrap.{listed, scoped_code}
 use Rattle.bson_laws.specs.Spell.{Writing, spell_scoped, scoped_size, enclosed_at, spell_as, spell_entries_as, spell_list, size_as, size_list}
 use Rattle.bson_laws.proofs.Listed.{scope_spelled, scope_sized}
 use Rattle.bson_laws.proofs.Sizes.{ok_is, under_ok, length-spell}
-use Rattle.bson_ser_stream.specs.Writing.{with_tree, length_place}
+use Rattle.bson_ser_stream.specs.Writing.{with_tree, length_place, places, count_of}
 use Rattle.bson_writing.specs.Halting.{Halts}
 use Rattle.bson_ser_stream.specs.Halting.{Grows, Puts, Totals, TotalHalts}
 use Rattle.bson_ser_stream.proofs.Ended.{before_patch, length-patched}
@@ -34,17 +34,17 @@ totaled old b n is =
     let back : drop (length old + length (le32 n)) ((old ++ length_place) ++ b) ≡ b = drop_at (old ++ length_place) b (length old + length (le32 n)) (omega (arith, length-append old length_place, length-le32 n)) in
     (λ i. (front i ++ le32 (is i)) ++ back i) ∙ append_assoc old (le32 (length b + 4)) b
 
--- code with a scope is as long as all of it behind its length: the scope is a document, or given by its bytes
+-- code with a scope is as long as all of it behind its length, and has no more than that place beside those of the scope: the scope is a document, or given by its bytes
 abbrev IsWhole : Utf8 → Tree → Type 0
-IsWhole code u = enc (with_scope code u) ≡ after_total (closed_text code ++ enc u)
+IsWhole code u = (enc (with_scope code u) ≡ after_total (closed_text code ++ enc u)) × (places (with_scope code u) ≤ places u + 4)
 
 whole_in : {A : Type 0} (code : Utf8) (container : A → Tree) (levels : ℕ) (parts : ℕ → Writing A) → ((x : A) → IsWhole code (container x)) → (u : Tree) → enclosed_at container levels parts ≡ Ok u → IsWhole code u
 whole_in code container zero parts wholes u e = absurd cc
 whole_in code container (suc levels) parts wholes u e = let m = map_ok container (parts levels) u e in subst (IsWhole code) m.2 (wholes m.0)
 
 scope_whole : (code : Utf8) (readable : Bool) (v : Value) (levels : ℕ) → IsScope v → (u : Tree) → spell_as readable v levels ≡ Ok u → IsWhole code u
-scope_whole code readable (map es) levels is u e = whole_in code document levels (spell_entries_as readable es) (λ ps. refl) u e
-scope_whole code readable (raw_document bs) levels is u e = whole_in code (raw EmbeddedDocument) levels (λ inside. Ok bs) (λ b. refl) u e
+scope_whole code readable (map es) levels is u e = whole_in code document levels (spell_entries_as readable es) (λ ps. (refl, omega arith)) u e
+scope_whole code readable (raw_document bs) levels is u e = whole_in code (raw EmbeddedDocument) levels (λ inside. Ok bs) (λ b. (refl, omega arith)) u e
 scope_whole code readable v levels is u e = absurd is
 
 -- the answer for a code, and the place of a length
@@ -128,8 +128,20 @@ module _ (code : Utf8) (r : Writing Tree) (n : ℕ) (whole : (u : Tree) → r �
       untotaled (Stopped s) e = absurd e
       untotaled TooLong e = omega (arith, e, filled_long)
 
-      pub puts_scoped : (new : Output) (s4 : ℕ) → Totals filled new start s3 s4 → Puts JavaScriptCodeWithScope (length code + 9 + n) expected old new s0 s4 (Ok JavaScriptCodeWithScope)
-      puts_scoped new s4 total =
+      -- the scope was written, and so many bytes of it twice
+      abbrev ScopeLeast : Type 0
+      ScopeLeast = s2 + length filled.bytes + count_of places r ≤ s3 + length coded.bytes
+
+      scoped_places : count_of places expected ≤ count_of places r + 4
+      scoped_places =
+          let u = tree_there.0 in
+          let there : r ≡ Ok u = under_ok (codes "$scope") r u tree_there.1 in
+          let made : count_of places expected ≡ places (with_scope code u) = ap (λ x. count_of places (result_map (with_scope code) x)) tree_there.1 in
+          let inner : count_of places r ≡ places u = ap (count_of places) there in
+          omega (arith, made, inner, (whole u there).1)
+
+      pub puts_scoped : (new : Output) (s4 : ℕ) → Totals filled new start s3 s4 → ScopeLeast → Puts JavaScriptCodeWithScope (length code + 9 + n) expected old new s0 s4 (Ok JavaScriptCodeWithScope)
+      puts_scoped new s4 total least =
           let u = tree_there.0 in
           let m : ℕ = length filled.bytes - start in
           let count : m ≡ length (parts u) + 4 = omega (arith, at, ap length filled_is, length-append (old.bytes ++ length_place) (parts u), length-append old.bytes length_place) in
@@ -138,7 +150,7 @@ module _ (code : Utf8) (r : Writing Tree) (n : ℕ) (whole : (u : Tree) → r �
           record {
             kind = refl;
             bytes = ap (λ x. with_tree old.bytes (result_map (with_scope code) x)) tree_there.1
-                ∙ ap (λ b. Ok (old.bytes ++ b)) (whole u (under_ok (codes "$scope") r u tree_there.1))
+                ∙ ap (λ b. Ok (old.bytes ++ b)) (whole u (under_ok (codes "$scope") r u tree_there.1)).0
                 ∙ ap Ok (sym (totaled old.bytes (parts u) m count))
                 ∙ ap (λ b. Ok (patched b (length old.bytes) (le32 m))) filled_is
                 ∙ ap (λ k. Ok (patched filled.bytes k (le32 m))) (sym at)
@@ -150,6 +162,7 @@ module _ (code : Utf8) (r : Writing Tree) (n : ℕ) (whole : (u : Tree) → r �
               least = omega (arith, grown.least, total.steps, same);
               most = omega (arith, begins.steps, ap length begins.bytes, length-append old.bytes length_place, grows.most, more.most, total.steps, same);
             };
+            least = omega (arith, begins.steps, ap length begins.bytes, length-append old.bytes length_place, grows.least, least, scoped_places, total.steps, same);
           }
 
 -- the code and the scope that the fields of a struct are accepted as
@@ -170,7 +183,7 @@ module _ (readable : Bool) (fs : FieldValues) (levels : ℕ) (code : Utf8) (v : 
       (subst (λ x. Puts JavaScriptCodeWithScope (length code + 9 + n) (spell_scoped x) old new before now r) (sym (scope_spelled readable fs levels code v is)) h)
 
   halted : (old new : Output) (before now : ℕ) (r : Result ElementType Halt) (h : Halt) → r ≡ Err h → Grows old new before now → Halts (length code + 9 + n) old.spare (with_tree old.bytes (spell_scoped (Some (code, written)))) h → PutsScoped old new before now r
-  halted old new before now r h e grows halts = found old new before now r (subst (Puts JavaScriptCodeWithScope (length code + 9 + n) (spell_scoped (Some (code, written))) old new before now) (sym e) (record { kind = tt; bytes = halts; fits = tt; grows = grows }))
+  halted old new before now r h e grows halts = found old new before now r (subst (Puts JavaScriptCodeWithScope (length code + 9 + n) (spell_scoped (Some (code, written))) old new before now) (sym e) (record { kind = tt; bytes = halts; fits = tt; grows = grows; least = tt }))
 
   -- no place for the length
   pub halts_begin : (old new : Output) (before now : ℕ) (r : Result ElementType Halt) (h : Halt) (x : ℕ) → r ≡ Err h → Grows old new before now → Halts 4 old.spare (placed x) h → PutsScoped old new before now r
@@ -199,5 +212,5 @@ module _ (readable : Bool) (fs : FieldValues) (levels : ℕ) (code : Utf8) (v : 
             halted old new s0 now r h e (Grows-trans old filled new s0 s3 now (Grows-scoped code written n (scope_whole code readable v levels is_scope) (length-spell readable v levels) old begun coded start s0 s1 s2 at begins grows text filled s3 more) last)
             (untotaled code written n (scope_whole code readable v levels is_scope) (length-spell readable v levels) old begun coded start s0 s1 s2 at begins grows text filled s3 more scope h halts)
 
-        pub puts_total : (new : Output) (now : ℕ) → Totals filled new start s3 now → PutsScoped old new s0 now (Ok JavaScriptCodeWithScope)
-        puts_total new now total = found old new s0 now (Ok JavaScriptCodeWithScope) (puts_scoped code written n (scope_whole code readable v levels is_scope) (length-spell readable v levels) old begun coded start s0 s1 s2 at begins grows text filled s3 more scope new now total)
+        pub puts_total : (new : Output) (now : ℕ) → Totals filled new start s3 now → s2 + length filled.bytes + count_of places written ≤ s3 + length coded.bytes → PutsScoped old new s0 now (Ok JavaScriptCodeWithScope)
+        puts_total new now total least = found old new s0 now (Ok JavaScriptCodeWithScope) (puts_scoped code written n (scope_whole code readable v levels is_scope) (length-spell readable v levels) old begun coded start s0 s1 s2 at begins grows text filled s3 more scope new now total least)

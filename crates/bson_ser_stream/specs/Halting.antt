@@ -10,7 +10,7 @@ use Rattle.bson_laws.specs.Spell.{Writing}
 use Rattle.bson_writing.specs.Halting.{Gives}
 use Rattle.bson_writing.specs.declared.halt.Halt.{Halt}
 use Rattle.bson_writing.specs.declared.halt.Halt.TheVariants.{Stopped, TooLong}
-use Rattle.bson_ser_stream.specs.Writing.{with_tree}
+use Rattle.bson_ser_stream.specs.Writing.{with_tree, places, count_of}
 
 -- Bytes were appended alone. No more spare room was lost than they take, and each of them cost one step or two.
 pub record Grows (old new : Output) (before now : ℕ) : Type 0 where
@@ -19,17 +19,19 @@ pub record Grows (old new : Output) (before now : ℕ) : Type 0 where
   pub least : before + length new.bytes ≤ now + length old.bytes
   pub most : now + 2 * length old.bytes ≤ before + 2 * length new.bytes
 
--- A value of a kind and a size was appended as the definition says, and its kind is answered; or there is a reason not to.
+-- A value of a kind and a size was appended as the definition says, each of its bytes and each that is written over a place at one step, and its kind is answered; or there is a reason not to.
 pub record Puts (its : ElementType) (size : ℕ) (expected : Writing Tree) (old new : Output) (before now : ℕ) (result : Result ElementType Halt) : Type 0 where
   pub kind : IfOk result (λ k. k ≡ its)
   pub bytes : Gives size old.spare (λ _. new.bytes) result (with_tree old.bytes expected)
   pub fits : OnOk result (size ≤ max_bytes)
   pub grows : Grows old new before now
+  pub least : OnOk result (before + length new.bytes + count_of places expected ≤ now + length old.bytes)
 
--- Elements that take so many bytes were appended, so that these are the bytes of the definition; or there is a reason not to.
-pub record PutsParts (size : ℕ) (expected : Writing Bytes) (old new : Output) (before now : ℕ) (result : Result (Unit {0}) Halt) : Type 0 where
+-- Elements that take so many bytes, and so many of them twice, were appended, so that these are the bytes of the definition; or there is a reason not to.
+pub record PutsParts (size again : ℕ) (expected : Writing Bytes) (old new : Output) (before now : ℕ) (result : Result (Unit {0}) Halt) : Type 0 where
   pub bytes : Gives size old.spare (λ _. new.bytes) result expected
   pub grows : Grows old new before now
+  pub least : OnOk result (before + length new.bytes + again ≤ now + length old.bytes)
 
 -- A document or an array that begins at a place is ended: a zero is behind it, and its length in its first four bytes.
 pub record Ends (old new : Output) (start before now : ℕ) : Type 0 where

@@ -1,9 +1,9 @@
--- What a writer answers. Source: bsonspec.org, version 1.1, `document` and `element`.
-use Rattle.std.specs.Prelude.{◌≡◌, ℕ, zero, suc, ◌<◌, [], ◌∷◌, ◌++◌, ◌⊎◌, Result, Ok, Err}
+-- What a writer answers. Source: bsonspec.org, version 1.1, `document`, `element` and `code_w_s`.
+use Rattle.std.specs.Prelude.{◌≡◌, ℕ, zero, suc, ◌+◌, ◌<◌, [], ◌∷◌, ◌++◌, ◌⊎◌, Result, Ok, Err}
 use Rattle.bson_kinds.specs.Text.{Bytes, Utf8}
 use Rattle.bson_kinds.specs.Outcome.{◌>>=◌, result_map}
 use Rattle.bson_base.specs.Sound.{max_bytes}
-use Rattle.bson_base.specs.Tree.{Tree, Pairs, Trees, enc, elements, array_elements, element, kind}
+use Rattle.bson_base.specs.Tree.{Tree, document, array, javascript_code_with_scope, Pairs, no_pairs, pair, Trees, no_trees, tree, enc, elements, array_elements, element, kind}
 use Rattle.bson_values.specs.Cause.{too_deep, too_long}
 use Rattle.bson_values.specs.Refusal.{WriteFault, unwritable, here, under, Failure, no_memory, with_path}
 use Rattle.bson_values.specs.ErrorView.{write_failure}
@@ -41,6 +41,27 @@ with_array_elements old i = with_bytes (array_elements i) old
 -- four zeros in the place of a length
 abbrev pub length_place : Bytes
 length_place = 0 ∷ 0 ∷ 0 ∷ 0 ∷ []
+
+abbrev mutual
+  -- how many bytes of a value are written over such places: the kind of each element in it, and the length of each document, array and code with its scope
+  pub places : Tree → ℕ
+  places (document ps) = pair_places ps + 4
+  places (array ts) = tree_places ts + 4
+  places (javascript_code_with_scope code scope) = pair_places scope + 8
+  places t = 0
+
+  pub pair_places : Pairs → ℕ
+  pair_places no_pairs = 0
+  pair_places (pair key t ps) = places t + 1 + pair_places ps
+
+  pub tree_places : Trees → ℕ
+  tree_places no_trees = 0
+  tree_places (tree t ts) = places t + 1 + tree_places ts
+
+-- such a number of what is written, and 0 where it is refused
+abbrev pub count_of : {A : Type 0} → (A → ℕ) → Writing A → ℕ
+count_of count (Ok x) = count x
+count_of count (Err r) = 0
 
 -- how many levels are left for what is in a document or an array, which takes one of those that are left
 abbrev pub level_inside : ℕ → Writing ℕ

@@ -7,7 +7,7 @@ ghost use Rattle.bson_datum.specs.View.{view};
 ghost use Rattle.bson_values.specs.ErrorView.{write_failure};
 ghost use Rattle.bson_laws.specs.Means.{means};
 ghost use Rattle.bson_laws.specs.Spell.{spell_document, size};
-ghost use Rattle.bson_ser_stream.specs.Writing.{with_tree, Fails, too_long_failure, GivesBytes};
+ghost use Rattle.bson_ser_stream.specs.Writing.{with_tree, places, count_of, Fails, too_long_failure, GivesBytes};
 ghost use Rattle.bson_writing.specs.Halting.{Gives};
 ghost use Rattle.bson_ser_stream.specs.Halting.{Grows};
 
@@ -30,6 +30,8 @@ fn put_whole<L: Ledger>(
         (with_tree out.old.bytes (spell_document (view value.now))) }
     ensures fits { OnOk result (size (view value.now) ≤ max_bytes) }
     ensures grows { Grows out.old out.new steps.old steps.new }
+    ensures least { OnOk result (steps.old + length out.new.bytes + count_of places (spell_document (view value.now))
+        ≤ steps.new + length out.old.bytes) }
 {
     match value.element_type() {
         ElementType::EmbeddedDocument => {
@@ -101,8 +103,11 @@ pub fn to_buf<L: Ledger>(value: &Datum<'_>, out: &mut Out, steps: &mut Steps<L>)
         → size (view value.now) ≤ out.old.spare → IsOk result }
     ensures spare { OnOk result
         (out.old.spare ≤ out.new.spare + (length out.new.bytes - length out.old.bytes)) }
+
+    // Each byte that is appended, and each that is written over the place of a kind or a length, is a step.
     ensures counted { OnOk result
-        (steps.old + (length out.new.bytes - length out.old.bytes) ≤ steps.new) }
+        (steps.old + (length out.new.bytes - length out.old.bytes) + count_of places (spell_document (view value.now))
+        ≤ steps.new) }
     ensures steps { OnOk result
         (steps.new ≤ steps.old + 2 * (length out.new.bytes - length out.old.bytes)) }
 {
@@ -116,7 +121,8 @@ pub fn to_buf<L: Ledger>(value: &Datum<'_>, out: &mut Out, steps: &mut Steps<L>)
     }
 }
 
-/// The bytes of a document, as [`to_buf`] appends them. `steps` rises by at least their number, and at most twice that.
+/// The bytes of a document, as [`to_buf`] appends them. `steps` rises by at least their number, one for each element and four
+/// for each document, array and code with its scope that is not given by its bytes, and by at most twice their number.
 ///
 /// # Errors
 ///
@@ -137,7 +143,8 @@ pub fn to_vec_counted<L: Ledger>(
     // What means a sound document is written as that document, unless memory runs out.
     ensures sound { (t : Tree) → means (view value.now) ≡ Some t → IsSound t
         → GivesBytes (λ v. v.items) (enc t) result }
-    ensures counted { IfOk result (λ out. steps.old + vec_len out ≤ steps.new) }
+    ensures counted { IfOk result
+        (λ out. steps.old + vec_len out + count_of places (spell_document (view value.now)) ≤ steps.new) }
     ensures steps { IfOk result (λ out. steps.new ≤ steps.old + 2 * vec_len out) }
 {
     let mut out = Out::new(alloc);

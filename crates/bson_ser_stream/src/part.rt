@@ -3,7 +3,7 @@ ghost use Rattle.std.specs.Prelude.{◌+◌, length};
 ghost use Rattle.bson_datum.specs.View.{view};
 ghost use Rattle.bson_laws.specs.Means.{key_text};
 ghost use Rattle.bson_laws.specs.Spell.{spell_key, spell_as, named, key_size, size_as};
-ghost use Rattle.bson_ser_stream.specs.Writing.{with_entry, with_element};
+ghost use Rattle.bson_ser_stream.specs.Writing.{with_entry, with_element, places, count_of};
 ghost use Rattle.bson_ser_stream.specs.Halting.{PutsParts};
 
 use crate::value::{Contents, put_named, put_under_key};
@@ -26,7 +26,7 @@ pub fn put_map_entry<L: Ledger>(
     levels: u32,
 ) -> Result<(), Halt>
     ensures { let key = view key.now in let value = view value.now in
-        PutsParts (key_size (key_text key) + 2 + size_as readable value) (with_entry out.old.bytes (spell_key key) (spell_as readable value levels))
+        PutsParts (key_size (key_text key) + 2 + size_as readable value) (count_of places (spell_as readable value levels) + 1) (with_entry out.old.bytes (spell_key key) (spell_as readable value levels))
         out.old out.new steps.old steps.new result }
 {
     let key = written_key(out.allocator(), key)?;
@@ -47,7 +47,7 @@ pub fn put_struct_field<L: Ledger>(
     levels: u32,
 ) -> Result<(), Halt>
     ensures { let value = view value.now in
-        PutsParts (length name.now + 2 + size_as readable value) (with_element out.old.bytes name.now (named name.now (spell_as readable value levels)))
+        PutsParts (length name.now + 2 + size_as readable value) (count_of places (spell_as readable value levels) + 1) (with_element out.old.bytes name.now (named name.now (spell_as readable value levels)))
         out.old out.new steps.old steps.new result }
 {
     put_named(

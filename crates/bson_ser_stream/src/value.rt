@@ -13,7 +13,7 @@ ghost use Rattle.bson_laws.specs.Unwrap.{unwrap, scoped_code};
 ghost use Rattle.bson_laws.specs.UuidBytes.{uuid_bytes};
 ghost use Rattle.bson_laws.specs.Spell.{spell_scoped, spell_uuid, written_size, newtype_at, newtype_size, reserved_at, reserved_size, scoped_size, spell_as, spell_items_as, spell_key, spell_entries_as, spell_fields_as, spell_list, named, variant_at, enclosed_at, key_size, variant_size, size_as, size_items_as, size_entries_as, size_fields_as, size_list};
 ghost use Rattle.bson_ser_stream.specs.ContentsView.{contents_view};
-ghost use Rattle.bson_ser_stream.specs.Writing.{with_tree, with_element, with_entry, with_elements, with_array_elements};
+ghost use Rattle.bson_ser_stream.specs.Writing.{with_tree, with_element, with_entry, with_elements, with_array_elements, places, pair_places, tree_places, count_of};
 ghost use Rattle.bson_ser_stream.specs.Halting.{Puts, PutsParts};
 
 use crate::container::{Container, Total};
@@ -215,7 +215,7 @@ fn put_scope<L: Ledger>(
     levels: u32,
 ) -> Result<(), Halt>
     ensures { let value = view scope.now in
-        PutsParts (size_as readable value) (with_tree out.old.bytes (under (codes "$scope") (spell_as readable value levels)))
+        PutsParts (size_as readable value) (count_of places (spell_as readable value levels)) (with_tree out.old.bytes (under (codes "$scope") (spell_as readable value levels)))
         out.old out.new steps.old steps.new result }
 {
     match put_value(out, steps, scope, readable, levels) {
@@ -334,7 +334,7 @@ fn put_fields<L: Ledger>(
     levels: u32,
 ) -> Result<(), Halt>
     ensures { let values = fields_view fields.now in
-        PutsParts (size_fields_as readable values) (with_elements out.old.bytes (spell_fields_as readable values levels))
+        PutsParts (size_fields_as readable values) (count_of pair_places (spell_fields_as readable values levels)) (with_elements out.old.bytes (spell_fields_as readable values levels))
         out.old out.new steps.old steps.new result }
 {
     for field in fields {
@@ -354,7 +354,7 @@ fn put_entries<L: Ledger>(
     levels: u32,
 ) -> Result<(), Halt>
     ensures { let values = entries_view entries.now in
-        PutsParts (size_entries_as readable values) (with_elements out.old.bytes (spell_entries_as readable values levels))
+        PutsParts (size_entries_as readable values) (count_of pair_places (spell_entries_as readable values levels)) (with_elements out.old.bytes (spell_entries_as readable values levels))
         out.old out.new steps.old steps.new result }
 {
     for entry in entries {
@@ -373,7 +373,7 @@ fn put_items<L: Ledger>(
     levels: u32,
 ) -> Result<(), Halt>
     ensures { let values = items_view items.now in
-        PutsParts (size_items_as readable 0 values) (with_array_elements out.old.bytes 0 (spell_items_as readable 0 values levels))
+        PutsParts (size_items_as readable 0 values) (count_of tree_places (spell_items_as readable 0 values levels)) (with_array_elements out.old.bytes 0 (spell_items_as readable 0 values levels))
         out.old out.new steps.old steps.new result }
 {
     for (index, item) in items.iter().enumerate() {
@@ -393,7 +393,7 @@ pub(crate) fn put_named<L: Ledger>(
     levels: u32,
 ) -> Result<(), Halt>
     ensures { let name = text_view name.now in let value = contents_view contents.entry in
-        PutsParts (length name + 2 + size_as readable value) (with_element out.old.bytes name (named name (spell_as readable value levels)))
+        PutsParts (length name + 2 + size_as readable value) (count_of places (spell_as readable value levels) + 1) (with_element out.old.bytes name (named name (spell_as readable value levels)))
         out.old out.new steps.old steps.new result }
 {
     let key = name.as_str();
@@ -413,7 +413,7 @@ fn put_entry<L: Ledger>(
     levels: u32,
 ) -> Result<(), Halt>
     ensures { let key = view entry.now.key in let value = view entry.now.value in
-        PutsParts (key_size (key_text key) + 2 + size_as readable value) (with_entry out.old.bytes (spell_key key) (spell_as readable value levels))
+        PutsParts (key_size (key_text key) + 2 + size_as readable value) (count_of places (spell_as readable value levels) + 1) (with_entry out.old.bytes (spell_key key) (spell_as readable value levels))
         out.old out.new steps.old steps.new result }
 {
     let key = written_key(out.allocator(), &entry.key)?;
@@ -432,7 +432,7 @@ pub(crate) fn put_under_key<L: Ledger>(
     levels: u32,
 ) -> Result<(), Halt>
     ensures { let value = contents_view contents.entry in
-        PutsParts (length key.now + 2 + size_as readable value) (with_element out.old.bytes key.now (under key.now (spell_as readable value levels)))
+        PutsParts (length key.now + 2 + size_as readable value) (count_of places (spell_as readable value levels) + 1) (with_element out.old.bytes key.now (under key.now (spell_as readable value levels)))
         out.old out.new steps.old steps.new result }
 {
     match put_element(out, steps, key, contents, readable, levels) {
@@ -456,7 +456,7 @@ pub fn put_item<L: Ledger>(
     levels: u32,
 ) -> Result<(), Halt>
     ensures { let value = view item.now in
-        PutsParts (length (decimal index) + 2 + size_as readable value) (with_element out.old.bytes (decimal index) (under_index index (spell_as readable value levels)))
+        PutsParts (length (decimal index) + 2 + size_as readable value) (count_of places (spell_as readable value levels) + 1) (with_element out.old.bytes (decimal index) (under_index index (spell_as readable value levels)))
         out.old out.new steps.old steps.new result }
 {
     let mut digits = itoa::Buffer::new();
@@ -479,7 +479,7 @@ fn put_element<L: Ledger>(
     levels: u32,
 ) -> Result<(), Halt>
     ensures { let value = contents_view contents.entry in
-        PutsParts (length key.now + 2 + size_as readable value) (with_element out.old.bytes key.now (spell_as readable value levels))
+        PutsParts (length key.now + 2 + size_as readable value) (count_of places (spell_as readable value levels) + 1) (with_element out.old.bytes key.now (spell_as readable value levels))
         out.old out.new steps.old steps.new result }
 {
     let start = out.len();

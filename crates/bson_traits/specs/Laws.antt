@@ -1,15 +1,15 @@
 -- The laws of types whose values are read as they were written. Source: serde's data model.
 use Rattle.std.specs.Prelude.{◌≡◌, Ok, Err, Some}
 use Rattle.bson_base.specs.Tree.{null}
-use Rattle.bson_shape.specs.Form.{Form}
+use Rattle.bson_shape.specs.Form.{Form, no_fields}
 use Rattle.bson_values.specs.Value.{Value}
-use Rattle.bson_laws.specs.Fits.{Fits}
 use Rattle.bson_laws.specs.Means.{means, norm}
+use Rattle.bson_laws.specs.Recursive.{FitsIn}
 use Rattle.bson_type_data.specs.Answers.{Reading, Writing}
 
 -- A value fits the form of a type, and what is read back of it gives these contents.
 pub record GivesBack {C : Type 0} (form : Form) (contents : C) (taken : Value → Reading C) (v : Value) : Type 0 where
-  pub fits : Fits v form
+  pub fits : FitsIn no_fields v form
   pub again : taken (norm v) ≡ Ok contents
 
 -- the same where a value is written

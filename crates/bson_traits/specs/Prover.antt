@@ -5,3 +5,5 @@ pub mod MapsBack
 pub mod ExtendedBack
 pub mod StructsBack
 pub mod TreesBack
+pub mod Equal
+pub mod InTables

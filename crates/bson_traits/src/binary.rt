@@ -1,4 +1,4 @@
-use crate::traits::{Deserialize, NeverNull, RoundTrip, Serialize};
+use crate::traits::{Deserialize, EqualByContents, NeverNull, RoundTrip, Serialize};
 use bson_base::Binary;
 use bson_datum::Datum;
 use bson_rawdoc::reading::known_bytes;
@@ -63,4 +63,10 @@ impl<'de> NeverNull<'de> for Binary {
     ghost use Rattle.bson_traits.specs.Prover.ExtendedBack.{binary_not_null};
 
     ghost not_null = { λ b h. binary_not_null b.subtype.0 b.bytes.items h.0 h.1 };
+}
+
+impl<'de> EqualByContents<'de> for Binary {
+    ghost use Rattle.bson_traits.specs.Prover.Equal.{binary_equal};
+
+    ghost equal = { λ x y e. binary_equal x.subtype.0 x.bytes.items y.subtype.0 y.bytes.items e };
 }

@@ -1,4 +1,4 @@
-use crate::traits::{Deserialize, NeverNull, RoundTrip, Serialize};
+use crate::traits::{Deserialize, EqualByContents, NeverNull, RoundTrip, Serialize};
 use bson_base::{DateTime, ObjectId, Timestamp};
 use bson_datum::Datum;
 use bson_shape::{Shape, ShapeError};
@@ -61,6 +61,12 @@ impl<'de> NeverNull<'de> for ObjectId {
     ghost not_null = { λ id. id_not_null id.0 };
 }
 
+impl<'de> EqualByContents<'de> for ObjectId {
+    ghost use Rattle.bson_traits.specs.Prover.Equal.{bytes_equal};
+
+    ghost equal = { λ x y e. bytes_equal x.0 y.0 e };
+}
+
 impl Serialize for DateTime {
     ghost use Rattle.std.specs.Prelude.{Ok};
     ghost use Rattle.bson_base.specs.Instant.{millis};
@@ -121,6 +127,13 @@ impl<'de> NeverNull<'de> for DateTime {
     ghost not_null = { λ time. date_not_null (millis time) };
 }
 
+impl<'de> EqualByContents<'de> for DateTime {
+    ghost use Rattle.bson_base.specs.Instant.{millis};
+    ghost use Rattle.bson_traits.specs.Prover.Equal.{int_equal};
+
+    ghost equal = { λ x y e. int_equal (millis x) (millis y) e };
+}
+
 impl Serialize for Timestamp {
     ghost use Rattle.std.specs.Prelude.{Ok, pos};
     ghost use Rattle.bson_type_data.specs.Extended.{stamp_datum};
@@ -174,4 +187,10 @@ impl<'de> NeverNull<'de> for Timestamp {
     ghost use Rattle.bson_traits.specs.Prover.ExtendedBack.{stamp_not_null};
 
     ghost not_null = { λ stamp h. stamp_not_null stamp.time stamp.increment h.0 h.1 };
+}
+
+impl<'de> EqualByContents<'de> for Timestamp {
+    ghost use Rattle.bson_traits.specs.Prover.Equal.{stamp_equal};
+
+    ghost equal = { λ x y e. stamp_equal x.time x.increment y.time y.increment e };
 }

@@ -18,4 +18,4 @@ mod trees;
 
 pub use bson_type_data::{date_datum, id_datum, not_fitting, refuse, stamp_datum};
 pub use shapes::{lossy_shape, readable_shape, shape_of};
-pub use traits::{Deserialize, NeverNull, RoundTrip, Serialize};
+pub use traits::{Deserialize, EqualByContents, NeverNull, RoundTrip, Serialize};

@@ -4,7 +4,7 @@ ghost use Rattle.bson_datum.specs.View.{view, entries_view};
 ghost use Rattle.bson_traits.specs.Maps.{map_contents, taken_pairs, are_texts, is_text, key_text};
 
 use crate::shapes::map_shape;
-use crate::traits::{Deserialize, NeverNull, RoundTrip, Serialize};
+use crate::traits::{Deserialize, EqualByContents, NeverNull, RoundTrip, Serialize};
 use bson_datum::{Datum, Entry};
 use bson_growing::{push, put};
 use bson_shape::{Shape, ShapeError};
@@ -84,6 +84,12 @@ impl<'de, T: RoundTrip<'de> + Drop> NeverNull<'de> for BTreeMap<String, T> {
     ghost use Rattle.bson_traits.specs.Prover.MapsBack.{map_not_null};
 
     ghost not_null = { λ m h. map_not_null (written_entries T.Serialize.written m.entries) };
+}
+
+impl<'de, T: EqualByContents<'de> + Drop> EqualByContents<'de> for BTreeMap<String, T> {
+    ghost use Rattle.bson_traits.specs.Prover.Equal.{map_equal};
+
+    ghost equal = { map_equal T.contents T.eq T.equal };
 }
 
 // The map that entries give; the last of repeated keys counts.

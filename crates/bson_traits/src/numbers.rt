@@ -1,4 +1,4 @@
-use crate::traits::{Deserialize, NeverNull, RoundTrip, Serialize};
+use crate::traits::{Deserialize, EqualByContents, NeverNull, RoundTrip, Serialize};
 use bson_datum::Datum;
 use bson_shape::{Shape, ShapeError};
 use bson_type_data::{i8_in, i16_in, i32_in, i64_in, u8_in, u16_in, u32_in, u64_in};
@@ -61,6 +61,12 @@ impl<'de> NeverNull<'de> for i8 {
     ghost not_null = { λ n _. i8_not_null n };
 }
 
+impl<'de> EqualByContents<'de> for i8 {
+    ghost use Rattle.bson_traits.specs.Prover.Equal.{int_equal};
+
+    ghost equal = { int_equal };
+}
+
 impl Serialize for i16 {
     ghost use Rattle.std.specs.Prelude.{Ok};
     ghost use Rattle.bson_values.specs.Value.{integer, i16};
@@ -115,6 +121,12 @@ impl<'de> NeverNull<'de> for i16 {
     ghost use Rattle.bson_traits.specs.Prover.ScalarsBack.{i16_not_null};
 
     ghost not_null = { λ n _. i16_not_null n };
+}
+
+impl<'de> EqualByContents<'de> for i16 {
+    ghost use Rattle.bson_traits.specs.Prover.Equal.{int_equal};
+
+    ghost equal = { int_equal };
 }
 
 impl Serialize for i32 {
@@ -173,6 +185,12 @@ impl<'de> NeverNull<'de> for i32 {
     ghost not_null = { λ n _. i32_not_null n };
 }
 
+impl<'de> EqualByContents<'de> for i32 {
+    ghost use Rattle.bson_traits.specs.Prover.Equal.{int_equal};
+
+    ghost equal = { int_equal };
+}
+
 impl Serialize for i64 {
     ghost use Rattle.std.specs.Prelude.{Ok};
     ghost use Rattle.bson_values.specs.Value.{integer, i64};
@@ -227,6 +245,12 @@ impl<'de> NeverNull<'de> for i64 {
     ghost use Rattle.bson_traits.specs.Prover.ScalarsBack.{i64_not_null};
 
     ghost not_null = { λ n _. i64_not_null n };
+}
+
+impl<'de> EqualByContents<'de> for i64 {
+    ghost use Rattle.bson_traits.specs.Prover.Equal.{int_equal};
+
+    ghost equal = { int_equal };
 }
 
 impl Serialize for u8 {
@@ -284,6 +308,12 @@ impl<'de> NeverNull<'de> for u8 {
     ghost not_null = { λ n _. u8_not_null n };
 }
 
+impl<'de> EqualByContents<'de> for u8 {
+    ghost use Rattle.bson_traits.specs.Prover.Equal.{nat_equal};
+
+    ghost equal = { nat_equal };
+}
+
 impl Serialize for u16 {
     ghost use Rattle.std.specs.Prelude.{Ok, pos};
     ghost use Rattle.bson_values.specs.Value.{integer, u16};
@@ -337,6 +367,12 @@ impl<'de> NeverNull<'de> for u16 {
     ghost use Rattle.bson_traits.specs.Prover.ScalarsBack.{u16_not_null};
 
     ghost not_null = { λ n _. u16_not_null n };
+}
+
+impl<'de> EqualByContents<'de> for u16 {
+    ghost use Rattle.bson_traits.specs.Prover.Equal.{nat_equal};
+
+    ghost equal = { nat_equal };
 }
 
 impl Serialize for u32 {
@@ -394,6 +430,12 @@ impl<'de> NeverNull<'de> for u32 {
     ghost not_null = { λ n _. u32_not_null n };
 }
 
+impl<'de> EqualByContents<'de> for u32 {
+    ghost use Rattle.bson_traits.specs.Prover.Equal.{nat_equal};
+
+    ghost equal = { nat_equal };
+}
+
 impl Serialize for u64 {
     ghost use Rattle.std.specs.Prelude.{Ok, pos};
     ghost use Rattle.bson_values.specs.Value.{integer, u64};
@@ -447,4 +489,10 @@ impl<'de> NeverNull<'de> for u64 {
     ghost use Rattle.bson_traits.specs.Prover.ScalarsBack.{u64_not_null};
 
     ghost not_null = { λ n _. u64_not_null n };
+}
+
+impl<'de> EqualByContents<'de> for u64 {
+    ghost use Rattle.bson_traits.specs.Prover.Equal.{nat_equal};
+
+    ghost equal = { nat_equal };
 }

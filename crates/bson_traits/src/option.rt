@@ -1,5 +1,5 @@
 use crate::shapes::optional_shape;
-use crate::traits::{Deserialize, NeverNull, RoundTrip, Serialize};
+use crate::traits::{Deserialize, EqualByContents, NeverNull, RoundTrip, Serialize};
 use bson_datum::Datum;
 use bson_growing::boxed;
 use bson_shape::{Shape, ShapeError};
@@ -67,4 +67,10 @@ impl<'de, T: NeverNull<'de>> RoundTrip<'de> for Option<T> {
     }
 
     ghost returns = { option_returns T.Serialize.written T.Deserialize.contents T.Deserialize.taken T.Deserialize.form T.is_value T.returns T.not_null };
+}
+
+impl<'de, T: EqualByContents<'de>> EqualByContents<'de> for Option<T> {
+    ghost use Rattle.bson_traits.specs.Prover.Equal.{option_equal};
+
+    ghost equal = { option_equal T.contents T.eq T.equal };
 }

@@ -1,4 +1,4 @@
-use crate::traits::{Deserialize, NeverNull, RoundTrip, Serialize};
+use crate::traits::{Deserialize, EqualByContents, NeverNull, RoundTrip, Serialize};
 use bson_base::Double;
 use bson_datum::Datum;
 use bson_shape::{Shape, ShapeError};
@@ -58,6 +58,12 @@ impl<'de> NeverNull<'de> for bool {
     ghost not_null = { λ b _. bool_not_null b };
 }
 
+impl<'de> EqualByContents<'de> for bool {
+    ghost use Rattle.bson_traits.specs.Prover.Equal.{bool_equal};
+
+    ghost equal = { bool_equal };
+}
+
 impl Serialize for char {
     ghost use Rattle.std.specs.Prelude.{Ok};
     ghost use Rattle.bson_values.specs.Value.{character};
@@ -111,6 +117,12 @@ impl<'de> NeverNull<'de> for char {
     ghost use Rattle.bson_traits.specs.Prover.ScalarsBack.{char_not_null};
 
     ghost not_null = { λ c _. char_not_null c };
+}
+
+impl<'de> EqualByContents<'de> for char {
+    ghost use Rattle.bson_traits.specs.Prover.Equal.{nat_equal};
+
+    ghost equal = { nat_equal };
 }
 
 impl Serialize for Double {
@@ -168,6 +180,12 @@ impl<'de> NeverNull<'de> for Double {
     ghost not_null = { λ d _. double_not_null d.0 };
 }
 
+impl<'de> EqualByContents<'de> for Double {
+    ghost use Rattle.bson_traits.specs.Prover.Equal.{bytes_equal};
+
+    ghost equal = { λ x y e. bytes_equal x.0 y.0 e };
+}
+
 impl Serialize for () {
     ghost use Rattle.std.specs.Prelude.{Ok};
     ghost use Rattle.bson_values.specs.Value.{unit};
@@ -212,4 +230,10 @@ impl<'de> RoundTrip<'de> for () {
     fn known(&self) {}
 
     ghost returns = { λ _ _. unit_returns };
+}
+
+impl<'de> EqualByContents<'de> for () {
+    ghost use Rattle.std.specs.Prelude.{refl};
+
+    ghost equal = { λ x y e. refl };
 }

@@ -4,7 +4,7 @@ ghost use Rattle.bson_datum.specs.View.{items_view};
 ghost use Rattle.bson_traits.specs.Sequences.{taken_items};
 
 use crate::shapes::sequence_shape;
-use crate::traits::{Deserialize, NeverNull, RoundTrip, Serialize};
+use crate::traits::{Deserialize, EqualByContents, NeverNull, RoundTrip, Serialize};
 use bson_datum::Datum;
 use bson_growing::push;
 use bson_shape::{Shape, ShapeError};
@@ -72,6 +72,12 @@ impl<'de, T: RoundTrip<'de> + Drop> NeverNull<'de> for Vec<T> {
     ghost use Rattle.bson_traits.specs.Sequences.{written_items};
 
     ghost not_null = { λ xs all. sequence_not_null (written_items T.Serialize.written xs.items) };
+}
+
+impl<'de, T: EqualByContents<'de> + Drop> EqualByContents<'de> for Vec<T> {
+    ghost use Rattle.bson_traits.specs.Prover.Equal.{items_equal};
+
+    ghost equal = { λ xs ys e. items_equal T.contents T.eq T.equal xs.items ys.items e };
 }
 
 // The values that data give.

@@ -1,4 +1,4 @@
-use crate::traits::{Deserialize, NeverNull, RoundTrip, Serialize};
+use crate::traits::{Deserialize, EqualByContents, NeverNull, RoundTrip, Serialize};
 use bson_base::{Decimal128, Uuid};
 use bson_datum::Datum;
 use bson_shape::{Shape, ShapeError};
@@ -61,6 +61,12 @@ impl<'de> NeverNull<'de> for Decimal128 {
     ghost not_null = { λ d. decimal_not_null d.0 };
 }
 
+impl<'de> EqualByContents<'de> for Decimal128 {
+    ghost use Rattle.bson_traits.specs.Prover.Equal.{bytes_equal};
+
+    ghost equal = { λ x y e. bytes_equal x.0 y.0 e };
+}
+
 impl Serialize for Uuid {
     ghost use Rattle.std.specs.Prelude.{Ok};
     ghost use Rattle.bson_type_data.specs.Extended.{uuid_value};
@@ -114,4 +120,10 @@ impl<'de> NeverNull<'de> for Uuid {
     ghost use Rattle.bson_traits.specs.Prover.ExtendedBack.{uuid_not_null};
 
     ghost not_null = { λ id _. uuid_not_null id.0 };
+}
+
+impl<'de> EqualByContents<'de> for Uuid {
+    ghost use Rattle.bson_traits.specs.Prover.Equal.{bytes_equal};
+
+    ghost equal = { λ x y e. bytes_equal x.0 y.0 e };
 }

@@ -1,4 +1,4 @@
-use crate::traits::{Deserialize, NeverNull, RoundTrip, Serialize};
+use crate::traits::{Deserialize, EqualByContents, NeverNull, RoundTrip, Serialize};
 use bson_base::{DbPointer, Regex};
 use bson_datum::Datum;
 use bson_shape::{Shape, ShapeError};
@@ -67,6 +67,13 @@ impl<'de> NeverNull<'de> for DbPointer {
     ghost not_null = { λ p h. pointer_not_null (string_bytes p.namespace) p.id.0 h.0 h.1 };
 }
 
+impl<'de> EqualByContents<'de> for DbPointer {
+    ghost use Rattle.std.specs.Prelude.{string_bytes};
+    ghost use Rattle.bson_traits.specs.Prover.Equal.{pointer_equal};
+
+    ghost equal = { λ x y e. pointer_equal (string_bytes x.namespace) x.id.0 (string_bytes y.namespace) y.id.0 e };
+}
+
 impl Serialize for Regex {
     ghost use Rattle.std.specs.Prelude.{Ok};
     ghost use Rattle.bson_type_data.specs.Extended.{regex_datum};
@@ -123,4 +130,10 @@ impl<'de> NeverNull<'de> for Regex {
     ghost use Rattle.bson_traits.specs.Prover.ExtendedBack.{regex_not_null};
 
     ghost not_null = { λ r h. regex_not_null r.pattern r.options h.0 h.1 };
+}
+
+impl<'de> EqualByContents<'de> for Regex {
+    ghost use Rattle.bson_traits.specs.Prover.Equal.{regex_equal};
+
+    ghost equal = { λ x y e. regex_equal x.pattern x.options y.pattern y.options e };
 }

@@ -2,7 +2,7 @@ ghost use Rattle.bson_shape.specs.Form.{leaf};
 ghost use Rattle.bson_shape.specs.declared.leaf.Leaf.TheVariants as leaves;
 ghost use Rattle.bson_traits.specs.ShapeOf.{IsShapeOf};
 
-use crate::traits::{Deserialize, NeverNull, RoundTrip, Serialize};
+use crate::traits::{Deserialize, EqualByContents, NeverNull, RoundTrip, Serialize};
 use bson_datum::Datum;
 use bson_shape::{Shape, ShapeError};
 use bson_type_data::{known_text, refuse, string_of};
@@ -68,6 +68,12 @@ impl<'de> NeverNull<'de> for String {
     ghost not_null = { λ s _. string_not_null (string_bytes s) };
 }
 
+impl<'de> EqualByContents<'de> for String {
+    ghost use Rattle.bson_traits.specs.Prover.Equal.{string_equal};
+
+    ghost equal = { string_equal };
+}
+
 impl<'a> Serialize for Text<'a> {
     ghost use Rattle.std.specs.Prelude.{Ok};
     ghost use Rattle.bson_values.specs.TextView.{text_view};
@@ -129,4 +135,11 @@ impl<'de> NeverNull<'de> for Text<'de> {
     ghost use Rattle.bson_traits.specs.Prover.ScalarsBack.{string_not_null};
 
     ghost not_null = { λ t _. string_not_null (text_view t) };
+}
+
+impl<'de> EqualByContents<'de> for Text<'de> {
+    ghost use Rattle.bson_values.specs.TextView.{text_view};
+    ghost use Rattle.bson_traits.specs.Prover.Equal.{bytes_equal};
+
+    ghost equal = { λ x y e. bytes_equal (text_view x) (text_view y) e };
 }

@@ -1,3 +1,4 @@
+ghost use Rattle.std.specs.Prelude.{◌≡◌, true};
 ghost use Rattle.bson_shape.specs.Form.{Form};
 ghost use Rattle.bson_values.specs.Value.{Value};
 ghost use Rattle.bson_values.specs.Returned.{Reads, Writes};
@@ -37,7 +38,7 @@ pub trait Deserialize<'de>: Sized {
     /// What a value of the type contains.
     ghost Contents: { Type 0 };
 
-    /// The contents of a value. Two values are equal where their contents are.
+    /// The contents of a value, as the type names them. Laws compare two values by them; those of a type with [`EqualByContents`] are then `==`.
     ghost contents: { Self → Contents };
 
     /// The contents that a datum gives, or why it gives none.
@@ -78,4 +79,12 @@ pub trait RoundTrip<'de>: Serialize + Deserialize<'de> {
 pub trait NeverNull<'de>: RoundTrip<'de> {
     /// The tree of a value is not Null.
     ghost not_null: { (x : Self) → Self.is_value x → IsNeverNull (Self.written x) };
+}
+
+/// A type whose values are `==` where their contents are equal: what is read of what was written is `==` to it.
+///
+/// A type that forgets a part of its values, and compares it, cannot have this law; nor can one whose `==` does not hold of a value and itself, as that of `f64` at a NaN.
+pub trait EqualByContents<'de>: Deserialize<'de> + PartialEq {
+    /// Two values of equal contents are `==`.
+    ghost equal: { (x y : Self) → Self.contents x ≡ Self.contents y → Self.eq x y ≡ true };
 }

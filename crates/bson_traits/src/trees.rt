@@ -1,5 +1,5 @@
 use crate::known_trees::{known_document, known_scoped, known_tree};
-use crate::traits::{Deserialize, NeverNull, RoundTrip, Serialize};
+use crate::traits::{Deserialize, EqualByContents, NeverNull, RoundTrip, Serialize};
 use bson_base::{Bson, Document, JavaScriptCodeWithScope};
 use bson_datum::Datum;
 use bson_shape::{Shape, ShapeError};
@@ -57,6 +57,13 @@ impl<'de> RoundTrip<'de> for Bson {
     }
 
     ghost returns = { λ b. tree_returns (tree_of b) };
+}
+
+impl<'de> EqualByContents<'de> for Bson {
+    ghost use Rattle.bson_base.specs.BsonView.{tree_of};
+    ghost use Rattle.bson_traits.specs.Prover.Equal.{tree_equal};
+
+    ghost equal = { λ x y e. tree_equal (tree_of x) (tree_of y) e };
 }
 
 impl Serialize for Document {
@@ -118,6 +125,13 @@ impl<'de> NeverNull<'de> for Document {
     ghost not_null = { λ d. document_not_null (pairs_of d) };
 }
 
+impl<'de> EqualByContents<'de> for Document {
+    ghost use Rattle.bson_base.specs.BsonView.{pairs_of};
+    ghost use Rattle.bson_traits.specs.Prover.Equal.{pairs_equal};
+
+    ghost equal = { λ x y e. pairs_equal (pairs_of x) (pairs_of y) e };
+}
+
 impl Serialize for JavaScriptCodeWithScope {
     ghost use Rattle.std.specs.Prelude.{Ok};
     ghost use Rattle.bson_type_data.specs.Trees.{scoped_contents, scoped_datum};
@@ -173,4 +187,12 @@ impl<'de> NeverNull<'de> for JavaScriptCodeWithScope {
     ghost use Rattle.bson_type_data.specs.Trees.{scoped_contents};
 
     ghost not_null = { λ c. scoped_not_null (scoped_contents c) };
+}
+
+impl<'de> EqualByContents<'de> for JavaScriptCodeWithScope {
+    ghost use Rattle.std.specs.Prelude.{string_bytes};
+    ghost use Rattle.bson_base.specs.BsonView.{pairs_of};
+    ghost use Rattle.bson_traits.specs.Prover.Equal.{scoped_equal};
+
+    ghost equal = { λ x y e. scoped_equal (string_bytes x.code) (pairs_of x.scope) (string_bytes y.code) (pairs_of y.scope) e };
 }

@@ -1,3 +1,4 @@
 pub mod Steps
 pub mod Written
 pub mod Ways
+pub mod Numbers

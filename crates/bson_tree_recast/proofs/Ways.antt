@@ -36,7 +36,7 @@ use Rattle.bson_tree_recast.proofs.Written.{recast_as, written_as}
 
 -- ---- what a recast that gives bytes went through
 
-ends_ok : {A E : Type 0} (ends : E → Ending) (r : Result A E) (x : A) → or_ends ends r ≡ Ok x → r ≡ Ok x
+pub ends_ok : {A E : Type 0} (ends : E → Ending) (r : Result A E) (x : A) → or_ends ends r ≡ Ok x → r ≡ Ok x
 ends_ok ends (Ok y) x e = ap Ok (ok_is y x e)
 ends_ok ends (Err f) x e = absurd cc
 
@@ -45,7 +45,7 @@ ended_ok (Ok bytes) out e = let same : bytes ≡ out = cc in ap Ok same
 ended_ok (Err (in_reading f)) out e = absurd cc
 ended_ok (Err (in_writing f)) out e = absurd cc
 
-bare_ok : {A : Type 0} (r : Reading A) (x : A) → answered_bare r ≡ Ok x → r ≡ Ok x
+pub bare_ok : {A : Type 0} (r : Reading A) (x : A) → answered_bare r ≡ Ok x → r ≡ Ok x
 bare_ok (Ok y) x e = ap Ok (ok_is y x e)
 bare_ok (Err f) x e = absurd cc
 

@@ -6,12 +6,12 @@ use Rattle.bson_base.specs.Sound.{max_bytes}
 use Rattle.bson_base.specs.Tree.{Tree, enc}
 use Rattle.bson_shape.specs.Form.{Form}
 use Rattle.bson_values.specs.Value.{Value}
-use Rattle.bson_values.specs.Refusal.{ReadFault, WriteFault, Failure, no_memory, with_path}
+use Rattle.bson_values.specs.Refusal.{ReadFault, WriteFault, Failure, no_memory, bare, placed, with_path}
 use Rattle.bson_values.specs.declared.de.Error as de
 use Rattle.bson_values.specs.declared.ser.Error as ser
 use Rattle.bson_values.specs.ErrorView.{read_failure, write_failure}
 use Rattle.bson_laws.specs.Reads.{reads_document}
-use Rattle.bson_laws.specs.Spell.{Writing, spell_document, size}
+use Rattle.bson_laws.specs.Spell.{Writing, spell_document, size, IsNumber}
 use Rattle.bson_ser_stream.specs.Writing.{too_long_failure}
 use Rattle.bson_tree_recast.specs.declared.error.RecastError.{RecastError}
 use Rattle.bson_tree_recast.specs.declared.error.RecastError.TheVariants.{Read, Write, NoMemory}
@@ -63,6 +63,19 @@ IsRefusal r NoMemory = Unit {0}
 abbrev pub IsRecast : Recast → Result (Vec ℕ) RecastError → Type 0
 IsRecast r (Ok v) = r ≡ writes v.items
 IsRecast r (Err e) = IsRefusal r e
+
+-- a failure of the writer, where that is the answer, has this property
+abbrev pub IfUnwritten : (Failure WriteFault → Type 0) → Result (Vec ℕ) RecastError → Type 0
+IfUnwritten P (Ok v) = Unit {0}
+IfUnwritten P (Err (Read e)) = Unit {0}
+IfUnwritten P (Err (Write e)) = P (write_failure e)
+IfUnwritten P (Err NoMemory) = Unit {0}
+
+-- the failure, with a path or without one, is not `UnsignedIntegerExceededRange`, the one for a number that no Int64 holds
+abbrev pub IsForNoNumber : Failure WriteFault → Type 0
+IsForNoNumber no_memory = Unit {0}
+IsForNoNumber (bare fault) = IsNumber fault → ⊥
+IsForNoNumber (placed path f) = IsForNoNumber f
 
 -- What a recast returns for an error of reading: `Read` with it, or `NoMemory` where memory ran out.
 abbrev pub IsReadError : de.Error → RecastError → Type 0

@@ -5,7 +5,7 @@ ghost use Rattle.bson_datum.specs.View.{view};
 ghost use Rattle.bson_rawdoc.specs.DocumentTree.{document_pairs, Gives};
 ghost use Rattle.bson_rawdoc.specs.Envelope.{envelope};
 ghost use Rattle.bson_tree_recast.specs.ByTree.{document_step, value_step, made_step, bytes_step, tree_recast_of};
-ghost use Rattle.bson_tree_recast.specs.Recast.{recast_of, IsRecast, Steps};
+ghost use Rattle.bson_tree_recast.specs.Recast.{recast_of, IfUnwritten, IsForNoNumber, IsRecast, Steps};
 ghost use Rattle.bson_tree_recast.specs.Ways.{HasCommonRecast, HasDocument, GivesSame, TakesSame};
 ghost use Rattle.bson_ways_laws.specs.Simple.{IsSimple};
 ghost use Rattle.bson_ways_laws.specs.Ways.{SuitsBothWays, HasFreeInput};
@@ -25,6 +25,8 @@ use std::alloc::Global;
 /// Where no document of the input repeats a key or has one that begins with `$`, and the shape has no raw shape, no `readable`, no `mode` and no name that begins
 /// with `$` (`SuitsBothWays`), it gives the bytes that `recast` gives, wherever it gives any, if no key in these begins with `$`.
 ///
+/// At every shape what was read is never refused as `UnsignedIntegerExceededRange`.
+///
 /// # Errors
 ///
 /// No error carries a path.
@@ -43,6 +45,8 @@ pub fn recast_by_tree(alloc: Global, shape: &Shape, bytes: &[u8]) -> Result<Vec<
         → GivesSame (recast_of shape.now bytes.now) result }
     // At a shape of structs, sequences, integers, booleans and strings alone each way takes such an input exactly where the other does.
     ensures takes { IsSimple shape.now → HasFreeInput bytes.now → HasDocument bytes.now → TakesSame (recast_of shape.now bytes.now) result }
+    // At no shape is what was read refused for a number that no Int64 holds.
+    ensures numbers { IfUnwritten IsForNoNumber result }
 {
     shape.known();
     through(alloc, shape, bytes)

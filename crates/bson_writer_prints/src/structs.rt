@@ -5,8 +5,8 @@ use crate::refusals::under_x;
 use bson_datum::{Datum, Field};
 use bson_io::{Out, Steps, Tally};
 use bson_lines::Lines;
+use bson_ser_parts::ValueWriter;
 use bson_ser_stream::{to_buf, to_vec_at};
-use bson_ser_value::ValueWriter;
 use bson_values::Text;
 use std::alloc::Global;
 

@@ -21,8 +21,8 @@ use Rattle.bson_shape.specs.Form as form
 use Rattle.bson_shape.specs.Form.{Form, leaf}
 use Rattle.bson_shape.specs.declared.leaf.Leaf.TheVariants as leaves
 use Rattle.bson_values.specs.Value.{Value, str, map, Entries, entry}
-use Rattle.bson_laws.specs.Fits.{EntriesFit}
 use Rattle.bson_laws.specs.Means.{means_entries, norm_entries}
+use Rattle.bson_laws.proofs.FitsUnrolled.{EntriesFitIn, entry_in, map_in}
 use Rattle.bson_type_data.specs.Answers.{Reading, Writing}
 use Rattle.bson_traits.specs.Laws.{Returns, IsNeverNull}
 use Rattle.bson_traits.specs.Maps.{Key, written_entries, written_map, pair_contents, map_contents, are_texts, inserted, taken_entries, taken_map, IsPairOf, IsMapOf}
@@ -41,7 +41,7 @@ module _ {A C : Type 0} (c : A → C) where
 
 -- Entries fit, each key is a text, and what is read back of them goes in behind pairs whose keys are less.
 pub record GivesEntries {A C : Type 0} (f : Form) (c : A → C) (t : Value → Reading C) (es : List (Key × A)) (vs : Entries) : Type 0 where
-  pub fit : EntriesFit vs (leaf leaves.String) f
+  pub fit : EntriesFitIn form.no_fields vs (leaf leaves.String) f
   pub texts : are_texts (norm_entries vs) ≡ true
   pub again : (done : List (Key × A)) → IsStrictlySortedBy string_cmp (keys_of (done ++ es)) → taken_entries t (map_contents c done) (norm_entries vs) ≡ Ok (map_contents c (done ++ es))
 
@@ -68,7 +68,7 @@ entries_more f c t e es (Err x) rs u a b = tt
 entries_more f c t e es (Ok v) (Err x) u a b = tt
 entries_more f c t e es (Ok v) (Ok vs) u a b =
     record {
-      fit = (u, a.fits, b.fit);
+      fit = entry_in form.no_fields (leaf leaves.String) f (str (string_bytes e.0)) v vs u a.fits b.fit;
       texts = b.texts;
       again = λ done s.
           let same : (done ++ e ∷ []) ++ es ≡ done ++ e ∷ es = append_assoc done (e ∷ []) es in
@@ -88,7 +88,7 @@ return_entries w c t f P law (e ∷ es) all =
 map_of : {A C : Type 0} (f : Form) (c : A → C) (t : Value → Reading C) (es : List (Key × A)) (rs : Writing Entries) → IsStrictlySortedBy string_cmp (keys_of es) → ReturnEntries f c t es rs
     → Returns (form.map (leaf leaves.String) f) (map_contents c es) (taken_map t) (result_map map rs)
 map_of f c t es (Err e) s a = tt
-map_of f c t es (Ok vs) s a = record { fits = a.fit; again = rw (a.texts, a.again [] s) refl }
+map_of f c t es (Ok vs) s a = record { fits = map_in form.no_fields (leaf leaves.String) f vs a.fit; again = rw (a.texts, a.again [] s) refl }
 
 pub map_returns : {A C : Type 0} (w : A → Writing Value) (c : A → C) (t : Value → Reading C) (f : Form) (P : A → Type 0) → ((x : A) → P x → Returns f (c x) t (w x))
     → (m : BTreeMap Key A) → IsMapOf P m → Returns (form.map (leaf leaves.String) f) (map_contents c m.entries) (taken_map t) (written_map w m.entries)

@@ -8,15 +8,15 @@ use Rattle.bson_base.specs.Tree.{Trees, null}
 use Rattle.bson_shape.specs.Form as form
 use Rattle.bson_shape.specs.Form.{Form}
 use Rattle.bson_values.specs.Value.{Value, sequence, Items, item}
-use Rattle.bson_laws.specs.Fits.{ItemsFit}
 use Rattle.bson_laws.specs.Means.{means_items, norm_items}
+use Rattle.bson_laws.proofs.FitsUnrolled.{ItemsFitIn, item_in, sequence_in}
 use Rattle.bson_type_data.specs.Answers.{Reading, Writing}
 use Rattle.bson_traits.specs.Laws.{Returns, IsNeverNull}
 use Rattle.bson_traits.specs.Sequences.{written_items, written_sequence, taken_items, taken_sequence}
 
 -- items fit a form, and what is read back of them gives these contents
 pub record GiveBack {C : Type 0} (f : Form) (contents : List C) (t : Value → Reading C) (vs : Items) : Type 0 where
-  pub fit : ItemsFit vs f
+  pub fit : ItemsFitIn form.no_fields vs f
   pub again : taken_items t (norm_items vs) ≡ Ok contents
 
 abbrev pub Return : {C : Type 0} → Form → List C → (Value → Reading C) → Writing Items → Type 0
@@ -27,7 +27,7 @@ return_more : {C : Type 0} (f : Form) (c : C) (cs : List C) (t : Value → Readi
     → Return f (c ∷ cs) t (r >>= λ v. result_map (item v) rs)
 return_more f c cs t (Err e) rs a b = tt
 return_more f c cs t (Ok v) (Err e) a b = tt
-return_more f c cs t (Ok v) (Ok vs) a b = record { fit = (a.fits, b.fit); again = rw (a.again, b.again) refl }
+return_more f c cs t (Ok v) (Ok vs) a b = record { fit = item_in form.no_fields f v vs a.fits b.fit; again = rw (a.again, b.again) refl }
 
 return_all : {A C : Type 0} (w : A → Writing Value) (c : A → C) (t : Value → Reading C) (f : Form) (P : A → Type 0) → ((x : A) → P x → Returns f (c x) t (w x))
     → (xs : List A) → All P xs → Return f (map c xs) t (written_items w xs)
@@ -37,7 +37,7 @@ return_all w c t f P law (x ∷ xs) all =
 
 returns_of : {C : Type 0} (f : Form) (cs : List C) (t : Value → Reading C) (rs : Writing Items) → Return f cs t rs → Returns (form.sequence f) cs (taken_sequence t) (result_map sequence rs)
 returns_of f cs t (Err e) a = tt
-returns_of f cs t (Ok vs) a = record { fits = a.fit; again = a.again }
+returns_of f cs t (Ok vs) a = record { fits = sequence_in form.no_fields f vs a.fit; again = a.again }
 
 pub sequence_returns : {A C : Type 0} (w : A → Writing Value) (c : A → C) (t : Value → Reading C) (f : Form) (P : A → Type 0) → ((x : A) → P x → Returns f (c x) t (w x))
     → (xs : List A) → All P xs → Returns (form.sequence f) (map c xs) (taken_sequence t) (written_sequence w xs)

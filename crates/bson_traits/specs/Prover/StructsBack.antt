@@ -11,15 +11,15 @@ use Rattle.bson_kinds.specs.declared.element_type.ElementType.{ElementType}
 use Rattle.bson_shape.specs.Form as form
 use Rattle.bson_shape.specs.Form.{Form, Fields}
 use Rattle.bson_values.specs.Value.{Value, structure, FieldValues, no_field_values, field_value}
-use Rattle.bson_laws.specs.Fits.{FieldsFit}
 use Rattle.bson_laws.specs.Means.{means_fields, norm, norm_fields, norm_struct, struct_means}
+use Rattle.bson_laws.proofs.FitsUnrolled.{FieldsFitIn, field_in, structure_in}
 use Rattle.bson_type_data.specs.Answers.{Reading, Writing}
 use Rattle.bson_traits.specs.Laws.{Returns, IsNeverNull}
 use Rattle.bson_traits.specs.Structs.{and_field, no_fields, written_structure, struct_fields, next_field, no_field_left, then_field, last_field, taken_structure}
 
 -- field values fit fields, and what is read back of them gives these contents
 pub record GiveFields {C : Type 0} (fs : Fields) (contents : C) (t : FieldValues → Reading C) (vs : FieldValues) : Type 0 where
-  pub fit : FieldsFit vs fs
+  pub fit : FieldsFitIn form.no_fields vs fs
   pub again : t (norm_fields vs) ≡ Ok contents
 
 abbrev pub ReturnFields : {C : Type 0} → Fields → C → (FieldValues → Reading C) → Writing FieldValues → Type 0
@@ -38,7 +38,7 @@ pub field_returns : {C D : Type 0} (name : Utf8) (f : Form) (c : C) (t : Value �
 field_returns name f c t (Err e) fs d rest ws a b = tt
 field_returns name f c t (Ok v) fs d rest (Err e) a b = tt
 field_returns name f c t (Ok v) fs d rest (Ok vs) a b = record {
-  fit = (refl, a.fits, b.fit);
+  fit = field_in form.no_fields name f fs v vs a.fits b.fit;
   again = ap (λ r. r >>= λ first. rest first.1 >>= λ e. Ok (first.0, e)) (found name t (norm v) c (norm_fields vs) a.again) ∙ ap (λ r. r >>= λ e. Ok (c, e)) b.again;
 }
 
@@ -46,7 +46,7 @@ pub last_returns : {C : Type 0} (name : Utf8) (f : Form) (c : C) (t : Value → 
     → ReturnFields (form.field name f form.no_fields) c (last_field name t) (and_field name r no_fields)
 last_returns name f c t (Err e) a = tt
 last_returns name f c t (Ok v) a = record {
-  fit = (refl, a.fits, tt);
+  fit = field_in form.no_fields name f form.no_fields v no_field_values a.fits tt;
   again = ap (λ r. r >>= λ last. no_field_left last.1 >>= λ end. Ok last.0) (found name t (norm v) c no_field_values a.again);
 }
 
@@ -61,7 +61,7 @@ pub structure_returns : {C : Type 0} (name : Utf8) (fs : Fields) (c : C) (t : Fi
     → Returns (form.structure form.dropped name fs) c (taken_structure name t) (written_structure name ws)
 structure_returns name fs c t (Err e) free a = tt
 structure_returns name fs c t (Ok vs) free a = record {
-  fits = (refl, a.fit);
+  fits = structure_in form.no_fields form.dropped name fs vs a.fit;
   again = ap (λ ns. struct_fields name (structure name ns) >>= t) (kept (reserved_kind name) (norm_fields vs) free) ∙ ap (λ r. r >>= t) (own_fields name (norm_fields vs)) ∙ a.again;
 }
 

@@ -12,7 +12,7 @@ use Rattle.bson_values.specs.ErrorView.{read_failure}
 use Rattle.bson_values.specs.Wrapper.{of_key}
 use Rattle.bson_values.specs.declared.wrapper.Wrapper.TheVariants as wrappers
 use Rattle.bson_laws.specs.Assembled.{stays, becomes, looked_tree, one_level, with_scope, built, built_pairs, built_trees, looked_at}
-use Rattle.bson_raw_builder.specs.Putting.{with_value, with_looked, looked_kind, PutsLooked, body_built, code_built}
+use Rattle.bson_raw_parts.specs.Putting.{with_value, with_looked, looked_kind, PutsLooked, body_built, code_built}
 use Rattle.bson_raw_builder.proofs.FirstKeys.{looked_body, looked_code, looked_ordinary}
 use Rattle.bson_raw_builder.proofs.Putting.{refuses_as, refused_for, level_left, array_put, looked_put, length_place, front, element_set, pair_set, pair_refused, place_there, pairs_more, trees_more, pairs_refused, trees_refused, ended, length_there, pairs_whole, trees_whole, next_values, measured, becomes_put, stays_put, looked_long, scoped_put, scope_refused}
 use Rattle.bson_raw_builder.proofs.building.+build.Goals as goal

@@ -5,8 +5,8 @@ use Rattle.bson_base.specs.Sound.{max_levels}
 use Rattle.bson_base.specs.Tree.{array, kind, enc}
 use Rattle.bson_values.specs.ErrorView.{read_failure}
 use Rattle.bson_laws.specs.Assembled.{Building, RawBytes, built, within_limit, assembled}
-use Rattle.bson_raw_builder.specs.Putting.{Gives, with_value}
-use Rattle.bson_raw_builder.specs.RawValueView.{raw_view}
+use Rattle.bson_raw_parts.specs.Putting.{Gives, with_value}
+use Rattle.bson_raw_parts.specs.RawValueView.{raw_view}
 use Rattle.bson_raw_builder.proofs.Putting.{refuses_as, whole_built}
 use Rattle.bson_raw_builder.proofs.building.raw_of_values.Goals as goal
 

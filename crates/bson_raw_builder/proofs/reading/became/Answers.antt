@@ -1,8 +1,8 @@
 use Rattle.std.proofs.Common.{ap, sym, ◌∙◌}
 use Rattle.std.specs.Prelude.{option_map}
 use Rattle.bson_base.specs.BsonView.{tree_of}
-use Rattle.bson_raw_builder.specs.BodyView.{body_tree}
-use Rattle.bson_raw_builder.proofs.BuiltValues.{body_none}
+use Rattle.bson_raw_parts.specs.BodyView.{body_tree}
+use Rattle.bson_raw_parts.proofs.BuiltValues.{body_none}
 use Rattle.bson_raw_builder.proofs.reading.became.Goals as goal
 
 pub returns-in-None : goal.returns-in-None

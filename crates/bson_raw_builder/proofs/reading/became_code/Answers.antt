@@ -9,7 +9,7 @@ use Rattle.bson_laws.specs.Assembled.{RawBytes}
 use Rattle.bson_laws.specs.Judged.{Reading}
 use Rattle.bson_laws.specs.TreeRaw.{built_value}
 use Rattle.bson_met.specs.Gives.{Reaches}
-use Rattle.bson_raw_builder.proofs.BuiltValues.{code_none, code_alone, code_scoped}
+use Rattle.bson_raw_parts.proofs.BuiltValues.{code_none, code_alone, code_scoped}
 use Rattle.bson_raw_builder.proofs.reading.became_code.Goals as goal
 
 pub returns-in_default : goal.returns-in_default

@@ -8,7 +8,7 @@ use Rattle.bson_laws.specs.Judged.{Reading, refused, judged}
 use Rattle.bson_laws.specs.TreeRaw.{in_bytes, built_container}
 use Rattle.bson_met.specs.Gives.{Reaches}
 use Rattle.bson_met.proofs.Refusals.{StopsAs, stops_bind, refused_stops}
-use Rattle.bson_raw_builder.specs.RawTreeView.{IsContainer, raw_made}
+use Rattle.bson_raw_parts.specs.BuiltView.{IsContainer, raw_made}
 use Rattle.bson_raw_builder.proofs.RawLeaves.{raw_apart, of_this_kind, of_other_kind}
 use Rattle.bson_raw_builder.proofs.reading.read_of_kind.Goals as goal
 

@@ -5,8 +5,8 @@ use Rattle.bson_laws.specs.Assembled.{assembled}
 use Rattle.bson_laws.specs.Judged.{Reading}
 use Rattle.bson_laws.specs.TreeRaw.{as_reading}
 use Rattle.bson_met.proofs.Refusals.{StopsAs, refused_stops}
-use Rattle.bson_raw_builder.specs.Putting.{Gives}
-use Rattle.bson_raw_builder.specs.RawValueView.{raw_view}
+use Rattle.bson_raw_parts.specs.Putting.{Gives}
+use Rattle.bson_raw_parts.specs.RawValueView.{raw_view}
 use Rattle.bson_raw_builder.proofs.RawTrees.{assembled_refused, assembled_whole}
 use Rattle.bson_raw_builder.proofs.reading.reading.Goals as goal
 

@@ -1,4 +1,4 @@
-use Rattle.std.proofs.Common.{◌≡◌, ◌≤◌, ◌-◌, ◌++◌, ◌∙◌, length, ap, arith, append_assoc}
+use Rattle.std.proofs.Common.{◌≡◌, ◌≤◌, ◌-◌, ◌++◌, ◌∙◌, length, ap, refl, arith, append_assoc}
 use Rattle.std.proofs.lemmas.List.{length-append}
 use Rattle.bson_ser_stream.specs.Binary.{behind_length, binary_front}
 use Rattle.bson_ser_stream.proofs.Base64Binaries.{spell_decoded, decoded_shorter, decoded_short, decoded_fault}
@@ -38,4 +38,4 @@ returns g c =
     let whole = filled c.args.out.now c.push_front.new.out c.push_base64.new.out c.fill_front.new.out c.len-start.result c.args.subtype.0 d.bytes _ _ _ _ c.len-start.ensures c.in_ok-push_front.ensures.ok d.appended fills in
     puts_value _ _ _ _ _ _ _ (Grows-filled c.args.out.now c.push_front.new.out c.push_base64.new.out c.fill_front.new.out c.len-start.result c.args.subtype.0 d.bytes _ _ _ _ c.len-start.ensures c.in_ok-push_front.ensures.ok d.appended fills) _ expected
     (whole ∙ append_assoc c.args.out.now.bytes (binary_front c.args.subtype.0 (length d.bytes)) d.bytes ∙ ap (λ x. c.args.out.now.bytes ++ x) (front_and_bytes c.args.subtype.0 d.bytes))
-    (omega (arith, size_expected _ _ expected, binary_fits c.args.subtype.0 d.bytes small))
+    (omega (arith, size_expected _ _ expected, binary_fits c.args.subtype.0 d.bytes small)) refl

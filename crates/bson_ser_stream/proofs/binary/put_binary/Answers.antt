@@ -1,4 +1,4 @@
-use Rattle.std.proofs.Common.{◌≤◌, ◌++◌, ◌∙◌, length, ap, arith, append_assoc}
+use Rattle.std.proofs.Common.{◌≤◌, ◌++◌, ◌∙◌, length, ap, refl, arith, append_assoc}
 use Rattle.bson_ser_stream.specs.Binary.{behind_length, binary_front}
 use Rattle.bson_ser_stream.proofs.Binaries.{front_and_bytes, length-written, spells, spells_too_long, binary_fits}
 use Rattle.bson_ser_stream.proofs.Growth.{Grows-trans, Grows-appended}
@@ -30,4 +30,4 @@ returns g c =
     puts_value _ _ _ _ _ _ _ (Grows-trans _ _ _ _ _ _ c.in_ok-push_front.ensures.grows (Grows-appended _ _ _ _ _ c.in_ok-push_all.ensures.ok)) _ expected
     (c.in_ok-push_all.ensures.ok.bytes ∙ ap (λ x. x ++ c.args.bytes.now) c.in_ok-push_front.ensures.ok.bytes ∙ append_assoc c.args.out.now.bytes (binary_front c.args.subtype.0 (length c.args.bytes.now)) c.args.bytes.now
     ∙ ap (λ x. c.args.out.now.bytes ++ x) (front_and_bytes c.args.subtype.0 c.args.bytes.now))
-    (omega (arith, size_expected _ _ expected, binary_fits c.args.subtype.0 c.args.bytes.now small))
+    (omega (arith, size_expected _ _ expected, binary_fits c.args.subtype.0 c.args.bytes.now small)) refl

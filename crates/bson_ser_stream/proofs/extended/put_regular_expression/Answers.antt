@@ -1,4 +1,4 @@
-use Rattle.std.proofs.Common.{length, ap, arith}
+use Rattle.std.proofs.Common.{length, ap, refl, arith}
 use Rattle.bson_base.specs.Sorted.{sorted}
 use Rattle.bson_base.proofs.Lengths.{length-regular_expression}
 use Rattle.bson_ser_stream.proofs.Expressions.{length-sorted, spells_expression, wrote_expression}
@@ -24,4 +24,4 @@ returns g c =
     let expected = spells_expression c.args.pattern.now c.args.options.now c.if-has_zero.ensures c.if-has_zero-2.ensures in
     let whole = wrote_expression c.args.out.now c.push_all.new.self c.push.new.self c.push_sorted.new.out c.push-2.new.self c.args.pattern.now _ _ _ _ _ _ _ c.as_bytes.ensures.value c.in_ok-push_all.ensures.ok c.in_ok-push.ensures.ok c.in_ok-push_sorted.ensures.ok c.in_ok-push-2.ensures.ok in
     puts_value _ _ _ _ _ _ _ (Grows-appended _ _ _ _ _ whole) _ expected whole.bytes
-    (omega (arith, size_expected _ _ expected, length-regular_expression c.args.pattern.now (sorted c.args.options.now), length-sorted c.args.options.now c.utf8.options, c.if-pattern-options.false))
+    (omega (arith, size_expected _ _ expected, length-regular_expression c.args.pattern.now (sorted c.args.options.now), length-sorted c.args.options.now c.utf8.options, c.if-pattern-options.false)) refl

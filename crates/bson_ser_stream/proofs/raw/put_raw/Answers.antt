@@ -17,4 +17,4 @@ pub returns : goal.returns
 returns g c =
     let bytes = c.args.bytes.now in
     let appended = c.in_ok-push_all.ensures.ok in
-    puts_value _ _ _ _ _ _ _ (Grows-appended _ _ _ _ _ appended) (raw c.args.kind bytes) (in_level c.args.kind bytes c.args.levels c.if-levels-eq0.false) appended.bytes (omega (arith, length_below bytes c.requires))
+    puts_value _ _ _ _ _ _ _ (Grows-appended _ _ _ _ _ appended) (raw c.args.kind bytes) (in_level c.args.kind bytes c.args.levels c.if-levels-eq0.false) appended.bytes (omega (arith, length_below bytes c.requires)) refl

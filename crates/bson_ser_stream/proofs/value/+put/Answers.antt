@@ -16,12 +16,13 @@ use Rattle.bson_ser_stream.proofs.Behind.{pair_halts, fields_on, entries_on, ite
 use Rattle.bson_ser_stream.proofs.Growth.{Grows-trans, Grows-appended}
 use Rattle.bson_ser_stream.proofs.Elements.{wrote_element}
 use Rattle.bson_ser_stream.proofs.Variants.{one_field, wrote_pair, puts_variant}
+use Rattle.bson_ser_stream.proofs.Places.{refused_least, field_places, entry_places, item_places, pair_least}
 use Rattle.bson_ser_stream.proofs.Arms.{puts_as, puts_array, puts_struct, puts_reserved}
 use Rattle.bson_laws.specs.Unwrap.{scoped_code}
 use Rattle.bson_laws.specs.Spell.{spell_scoped, scoped_size, spell_as, spell_items_as, spell_entries_as, spell_fields_as, spell_list, size_as, size_items_as, size_entries_as, size_fields_as, size_list}
 use Rattle.bson_base.specs.Tree.{document, array, elements, array_elements}
 use Rattle.std.specs.Fmt.{decimal}
-use Rattle.bson_ser_stream.specs.Writing.{with_element, with_elements, with_array_elements}
+use Rattle.bson_ser_stream.specs.Writing.{with_element, with_elements, with_array_elements, pair_places, tree_places, count_of}
 use Rattle.bson_writing.specs.Halting.{Halts}
 use Rattle.bson_laws.proofs.Listed.{no_scope_spelled}
 use Rattle.bson_kinds.specs.declared.element_type.ElementType.TheVariants.{JavaScriptCodeWithScope}
@@ -38,7 +39,7 @@ put_document-returns-in_err-end g t c =
 
 pub put_document-returns : goal.put_document-returns
 put_document-returns g t c =
-    puts_container (Parts-fields c.args.readable (fields_view c.args.fields.now)) c.args.out.now c.begin.new.out c.put_fields.new.out c.args.levels c.in_ok-document.document.levels c.in_ok-document.document.start _ _ _ c.in_ok-document.ensures.levels c.in_ok-document.ensures.start c.in_ok-document.ensures.ok c.in_ok-put_fields.ensures.grows c.in_ok-put_fields.ensures.bytes EmbeddedDocument c.end.new.out _ c.in_ok-end.ensures.ok
+    puts_container (Parts-fields c.args.readable (fields_view c.args.fields.now)) c.args.out.now c.begin.new.out c.put_fields.new.out c.args.levels c.in_ok-document.document.levels c.in_ok-document.document.start _ _ _ c.in_ok-document.ensures.levels c.in_ok-document.ensures.start c.in_ok-document.ensures.ok c.in_ok-put_fields.ensures.grows c.in_ok-put_fields.ensures.bytes EmbeddedDocument c.end.new.out _ c.in_ok-end.ensures.ok c.in_ok-put_fields.ensures.least
 
 pub put_variant-returns-in_err-end : goal.put_variant-returns-in_err-end
 put_variant-returns-in_err-end g t c =
@@ -47,7 +48,8 @@ put_variant-returns-in_err-end g t c =
 
 pub put_variant-returns : goal.put_variant-returns
 put_variant-returns g t c =
-    puts_variant c.args.readable (text_view c.args.name.now) (contents_view c.args.contents) c.args.levels _ _ _ _ _ (puts_container (Parts-fields c.args.readable (one_field (text_view c.args.name.now) (contents_view c.args.contents))) c.args.out.now c.begin.new.out c.put_named.new.out c.args.levels c.in_ok-document.document.levels c.in_ok-document.document.start _ _ _ c.in_ok-document.ensures.levels c.in_ok-document.ensures.start c.in_ok-document.ensures.ok c.in_ok-put_named.ensures.grows (wrote_pair c.args.readable (text_view c.args.name.now) (contents_view c.args.contents) c.in_ok-document.document.levels c.begin.new.out.bytes c.put_named.new.out.bytes c.in_ok-put_named.ensures.bytes) EmbeddedDocument c.end.new.out _ c.in_ok-end.ensures.ok)
+    puts_variant c.args.readable (text_view c.args.name.now) (contents_view c.args.contents) c.args.levels _ _ _ _ _ (puts_container (Parts-fields c.args.readable (one_field (text_view c.args.name.now) (contents_view c.args.contents))) c.args.out.now c.begin.new.out c.put_named.new.out c.args.levels c.in_ok-document.document.levels c.in_ok-document.document.start _ _ _ c.in_ok-document.ensures.levels c.in_ok-document.ensures.start c.in_ok-document.ensures.ok c.in_ok-put_named.ensures.grows (wrote_pair c.args.readable (text_view c.args.name.now) (contents_view c.args.contents) c.in_ok-document.document.levels c.begin.new.out.bytes c.put_named.new.out.bytes c.in_ok-put_named.ensures.bytes) EmbeddedDocument c.end.new.out _ c.in_ok-end.ensures.ok
+    (pair_least c.args.readable (text_view c.args.name.now) (contents_view c.args.contents) c.in_ok-document.document.levels _ _ c.in_ok-put_named.ensures.least))
 
 pub put_map-returns-in_err-end : goal.put_map-returns-in_err-end
 put_map-returns-in_err-end g t c =
@@ -56,7 +58,7 @@ put_map-returns-in_err-end g t c =
 
 pub put_map-returns : goal.put_map-returns
 put_map-returns g t c =
-    puts_container (Parts-entries c.args.readable (entries_view c.args.entries.now)) c.args.out.now c.begin.new.out c.put_entries.new.out c.args.levels c.in_ok-document.document.levels c.in_ok-document.document.start _ _ _ c.in_ok-document.ensures.levels c.in_ok-document.ensures.start c.in_ok-document.ensures.ok c.in_ok-put_entries.ensures.grows c.in_ok-put_entries.ensures.bytes EmbeddedDocument c.end.new.out _ c.in_ok-end.ensures.ok
+    puts_container (Parts-entries c.args.readable (entries_view c.args.entries.now)) c.args.out.now c.begin.new.out c.put_entries.new.out c.args.levels c.in_ok-document.document.levels c.in_ok-document.document.start _ _ _ c.in_ok-document.ensures.levels c.in_ok-document.ensures.start c.in_ok-document.ensures.ok c.in_ok-put_entries.ensures.grows c.in_ok-put_entries.ensures.bytes EmbeddedDocument c.end.new.out _ c.in_ok-end.ensures.ok c.in_ok-put_entries.ensures.least
 
 pub put_array-returns-in_err-end : goal.put_array-returns-in_err-end
 put_array-returns-in_err-end g t c =
@@ -65,7 +67,7 @@ put_array-returns-in_err-end g t c =
 
 pub put_array-returns : goal.put_array-returns
 put_array-returns g t c =
-    puts_container (Parts-items c.args.readable (items_view c.args.items.now)) c.args.out.now c.begin.new.out c.put_items.new.out c.args.levels c.in_ok-array.array.levels c.in_ok-array.array.start _ _ _ c.in_ok-array.ensures.levels c.in_ok-array.ensures.start c.in_ok-array.ensures.ok c.in_ok-put_items.ensures.grows c.in_ok-put_items.ensures.bytes Array c.end.new.out _ c.in_ok-end.ensures.ok
+    puts_container (Parts-items c.args.readable (items_view c.args.items.now)) c.args.out.now c.begin.new.out c.put_items.new.out c.args.levels c.in_ok-array.array.levels c.in_ok-array.array.start _ _ _ c.in_ok-array.ensures.levels c.in_ok-array.ensures.start c.in_ok-array.ensures.ok c.in_ok-put_items.ensures.grows c.in_ok-put_items.ensures.bytes Array c.end.new.out _ c.in_ok-end.ensures.ok c.in_ok-put_items.ensures.least
 
 pub put_fields-returns-in_err-put_named : goal.put_fields-returns-in_err-put_named
 put_fields-returns-in_err-put_named g t c =
@@ -80,6 +82,7 @@ put_fields-returns-in_err-put_named g t c =
       bytes = gives_err _ _ _ _ c.in_err-put_named.field-0.0 _ (p.1 ∙ ap Err p.2)
           (field_halts c.args.readable c.in_err-put_named.field-0.0 (text_view x.name) (view x.value) (fields_view (drop (suc i) xs)) (fields_view (drop i xs)) (fields_view xs) c.args.levels _ _ c.args.out.now c.loop-field.out is kept.bytes kept.size kept.grows c.in_err-put_named.ensures.bytes);
       grows = Grows-trans _ _ _ _ _ _ kept.grows c.in_err-put_named.ensures.grows;
+      least = refused_least _ _ c.in_err-put_named.field-0.0 (p.1 ∙ ap Err p.2);
     }
 
 pub put_entries-returns-in_err-put_entry : goal.put_entries-returns-in_err-put_entry
@@ -95,6 +98,7 @@ put_entries-returns-in_err-put_entry g t c =
       bytes = gives_err _ _ _ _ c.in_err-put_entry.field-0.0 _ (p.1 ∙ ap Err p.2)
           (entry_halts c.args.readable c.in_err-put_entry.field-0.0 (view x.key) (view x.value) (entries_view (drop (suc i) xs)) (entries_view (drop i xs)) (entries_view xs) c.args.levels _ _ c.args.out.now c.loop-entry.out is kept.bytes kept.size kept.grows c.in_err-put_entry.ensures.bytes);
       grows = Grows-trans _ _ _ _ _ _ kept.grows c.in_err-put_entry.ensures.grows;
+      least = refused_least _ _ c.in_err-put_entry.field-0.0 (p.1 ∙ ap Err p.2);
     }
 
 pub put_items-returns-in_err-put_item : goal.put_items-returns-in_err-put_item
@@ -110,6 +114,7 @@ put_items-returns-in_err-put_item g t c =
       bytes = gives_err _ _ _ _ c.in_err-put_item.field-0.0 _ (p.1 ∙ ap Err p.2)
           (item_halts c.args.readable c.in_err-put_item.field-0.0 i (view x) (items_view (drop (suc i) xs)) (items_view (drop i xs)) (items_view xs) c.args.levels _ _ c.args.out.now c.loop-index.out is kept.bytes kept.size kept.grows c.in_err-put_item.ensures.bytes);
       grows = Grows-trans _ _ _ _ _ _ kept.grows c.in_err-put_item.ensures.grows;
+      least = refused_least _ _ c.in_err-put_item.field-0.0 (p.1 ∙ ap Err p.2);
     }
 
 pub put_element-returns : goal.put_element-returns
@@ -118,6 +123,7 @@ put_element-returns g t c =
       bytes = wrote_element c.args.out.now c.begin_element.new.out c.put_contents.new.out c.patch_byte.new.self c.args.key.now c.len-start.result _ _ _ _ c.in_ok-kind.kind c.len-start.ensures c.in_ok-begin_element.ensures.ok
           (subst (λ b. Patched c.put_contents.new.out c.patch_byte.new.self c.len-start.result (b ∷ []) c.put_contents.new.steps c.patch_byte.new.steps) c.byte.ensures.byte c.patch_byte.ensures) c.args.readable (contents_view c.args.contents) c.args.levels c.in_ok-kind.ensures.kind c.in_ok-kind.ensures.bytes;
       grows = grind (arith, common_steps);
+      least = grind (arith, common_steps);
     }
 
 pub put_value-returns-in-Seq : goal.put_value-returns-in-Seq
@@ -183,7 +189,7 @@ put_scoped-returns-in_err-end g t c =
 pub put_scoped-returns : goal.put_scoped-returns
 put_scoped-returns g t c =
     let it = c.in-Some in
-    puts_total c.args.readable (fields_view c.args.fields.now) c.args.levels it.code.now (view it.scope.now) (sym it.ensures.value) it.ensures.scope c.args.out.now c.begin.new.out c.args.steps.now c.begin.new.steps c.in_ok-total.ensures.ok c.put_text.new.out c.in_ok-total.total.start c.put_text.new.steps c.in_ok-total.ensures.start c.in_ok-put_text.ensures.bytes c.in_ok-put_text.ensures.grows c.put_scope.new.out c.put_scope.new.steps c.in_ok-put_scope.ensures.grows c.in_ok-put_scope.ensures.bytes c.end.new.out c.end.new.steps c.in_ok-end.ensures.ok
+    puts_total c.args.readable (fields_view c.args.fields.now) c.args.levels it.code.now (view it.scope.now) (sym it.ensures.value) it.ensures.scope c.args.out.now c.begin.new.out c.args.steps.now c.begin.new.steps c.in_ok-total.ensures.ok c.put_text.new.out c.in_ok-total.total.start c.put_text.new.steps c.in_ok-total.ensures.start c.in_ok-put_text.ensures.bytes c.in_ok-put_text.ensures.grows c.put_scope.new.out c.put_scope.new.steps c.in_ok-put_scope.ensures.grows c.in_ok-put_scope.ensures.bytes c.end.new.out c.end.new.steps c.in_ok-end.ensures.ok c.in_ok-put_scope.ensures.least
 
 pub put_document-returns-in_err-put_fields : goal.put_document-returns-in_err-put_fields
 put_document-returns-in_err-put_fields g t c =
@@ -224,6 +230,7 @@ put_element-returns-in_err-kind g t c =
       bytes = gives_err _ _ _ _ c.in_err-kind.field-0.0 _ (p.1 ∙ ap Err p.2)
           (element_halts (size_as c.args.readable (contents_view c.args.contents)) c.args.key.now r c.in_err-kind.field-0.0 c.args.out.now c.begin_element.new.out c.args.steps.now c.begin_element.new.steps c.in_ok-begin_element.ensures.ok c.in_err-kind.ensures.bytes);
       grows = Grows-trans c.args.out.now c.begin_element.new.out c.put_contents.new.out c.args.steps.now c.begin_element.new.steps c.put_contents.new.steps (Grows-appended c.args.out.now c.begin_element.new.out _ c.args.steps.now c.begin_element.new.steps c.in_ok-begin_element.ensures.ok) c.in_err-kind.ensures.grows;
+      least = refused_least _ _ c.in_err-kind.field-0.0 (p.1 ∙ ap Err p.2);
     }
 
 pub put_under_key-returns-in-Err : goal.put_under_key-returns-in-Err
@@ -232,6 +239,7 @@ put_under_key-returns-in-Err g t c =
     record {
       bytes = under_halts (length c.args.key.now + 2 + size_as c.args.readable (contents_view c.args.contents)) c.args.out.now.spare (at_key c.args.key.now) c.args.out.now.bytes c.args.key.now r c.in-Err.halt c.under_key.result c.under_key.ensures.under c.in-Err.ensures.bytes;
       grows = c.in-Err.ensures.grows;
+      least = tt;
     }
 
 pub put_item-returns-in-Err : goal.put_item-returns-in-Err
@@ -243,6 +251,7 @@ put_item-returns-in-Err g t c =
       bytes = under_halts (length (decimal i) + 2 + n) c.args.out.now.spare (at_index i) c.args.out.now.bytes (decimal i) r c.in-Err.halt c.under_index.result c.under_index.ensures.under
           (subst (λ key. Halts (length key + 2 + n) c.args.out.now.spare (with_element c.args.out.now.bytes key r) c.in-Err.halt) c.format.ensures.text c.in-Err.ensures.bytes);
       grows = c.in-Err.ensures.grows;
+      least = tt;
     }
 
 pub put_fields-loop-field-preserved : goal.put_fields-loop-field-preserved
@@ -259,6 +268,7 @@ put_fields-loop-field-preserved g t c =
           ∙ ap (λ l. with_elements c.loop-field.out.bytes (spell_fields_as c.args.readable l c.args.levels)) (sym is) ∙ kept.bytes;
       size = omega (arith, kept.size, ap (size_fields_as c.args.readable) is);
       grows = Grows-trans _ _ _ _ _ _ kept.grows c.in_ok-put_named.ensures.grows;
+      least = omega (arith, kept.least, c.in_ok-put_named.ensures.least, ap (λ l. count_of pair_places (spell_fields_as c.args.readable l c.args.levels)) is, field_places c.args.readable (text_view x.name) (view x.value) (fields_view (drop (i + 1) xs)) c.args.levels);
     }
 
 pub put_entries-loop-entry-preserved : goal.put_entries-loop-entry-preserved
@@ -275,6 +285,7 @@ put_entries-loop-entry-preserved g t c =
           ∙ ap (λ l. with_elements c.loop-entry.out.bytes (spell_entries_as c.args.readable l c.args.levels)) (sym is) ∙ kept.bytes;
       size = omega (arith, kept.size, ap (size_entries_as c.args.readable) is);
       grows = Grows-trans _ _ _ _ _ _ kept.grows c.in_ok-put_entry.ensures.grows;
+      least = omega (arith, kept.least, c.in_ok-put_entry.ensures.least, ap (λ l. count_of pair_places (spell_entries_as c.args.readable l c.args.levels)) is, entry_places c.args.readable (view x.key) (view x.value) (entries_view (drop (i + 1) xs)) c.args.levels);
     }
 
 pub put_items-loop-index-preserved : goal.put_items-loop-index-preserved
@@ -292,4 +303,5 @@ put_items-loop-index-preserved g t c =
           ∙ ap (λ l. with_array_elements c.loop-index.out.bytes i (spell_items_as c.args.readable i l c.args.levels)) (sym is) ∙ kept.bytes;
       size = omega (arith, kept.size, ap (size_items_as c.args.readable i) is, ap (λ k. size_items_as c.args.readable k (items_view (drop (i + 1) xs))) next);
       grows = Grows-trans _ _ _ _ _ _ kept.grows c.in_ok-put_item.ensures.grows;
+      least = omega (arith, kept.least, c.in_ok-put_item.ensures.least, ap (λ l. count_of tree_places (spell_items_as c.args.readable i l c.args.levels)) is, item_places c.args.readable i (view x) (items_view (drop (i + 1) xs)) c.args.levels, ap (λ k. count_of tree_places (spell_items_as c.args.readable k (items_view (drop (i + 1) xs)) c.args.levels)) next);
     }

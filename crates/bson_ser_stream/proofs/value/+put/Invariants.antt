@@ -1,8 +1,8 @@
 -- What was appended so far leaves to come what was to come from the fields, the entries or the values that are left.
-use Rattle.std.proofs.Common.{◌≡◌, ◌+◌, ◌*◌, ◌≤◌, ℕ, drop}
+use Rattle.std.proofs.Common.{◌≡◌, ◌+◌, ◌*◌, ◌≤◌, ℕ, length, drop}
 use Rattle.bson_datum.specs.View.{items_view, entries_view, fields_view}
 use Rattle.bson_laws.specs.Spell.{spell_items_as, spell_entries_as, spell_fields_as, size_items_as, size_entries_as, size_fields_as}
-use Rattle.bson_ser_stream.specs.Writing.{with_elements, with_array_elements}
+use Rattle.bson_ser_stream.specs.Writing.{with_elements, with_array_elements, pair_places, tree_places, count_of}
 use Rattle.bson_ser_stream.specs.Halting.{Grows}
 use denote.Param.Weighed.{most}
 use Rattle.bson_datum.specs.declared.datum.Datum.TheViews.{size-Datum, size-Field}
@@ -17,6 +17,7 @@ invariant-put_fields-loop-field g l =
       bytes : with_elements l.out.bytes (spell_fields_as l.readable left l.levels) ≡ with_elements l.initial.out.bytes (spell_fields_as l.readable (fields_view l.fields) l.levels);
       size : size_fields_as l.readable left ≤ size_fields_as l.readable (fields_view l.fields);
       grows : Grows l.initial.out l.out l.initial.steps l.steps;
+      least : l.initial.steps + length l.out.bytes + count_of pair_places (spell_fields_as l.readable (fields_view l.fields) l.levels) ≤ l.steps + length l.initial.out.bytes + count_of pair_places (spell_fields_as l.readable left l.levels);
     }
 
 abbrev pub invariant-put_entries-loop-entry : goal.invariant-put_entries-loop-entry
@@ -26,6 +27,7 @@ invariant-put_entries-loop-entry g l =
       bytes : with_elements l.out.bytes (spell_entries_as l.readable left l.levels) ≡ with_elements l.initial.out.bytes (spell_entries_as l.readable (entries_view l.entries) l.levels);
       size : size_entries_as l.readable left ≤ size_entries_as l.readable (entries_view l.entries);
       grows : Grows l.initial.out l.out l.initial.steps l.steps;
+      least : l.initial.steps + length l.out.bytes + count_of pair_places (spell_entries_as l.readable (entries_view l.entries) l.levels) ≤ l.steps + length l.initial.out.bytes + count_of pair_places (spell_entries_as l.readable left l.levels);
     }
 
 abbrev pub invariant-put_items-loop-index : goal.invariant-put_items-loop-index
@@ -35,6 +37,7 @@ invariant-put_items-loop-index g l =
       bytes : with_array_elements l.out.bytes l.index (spell_items_as l.readable l.index left l.levels) ≡ with_array_elements l.initial.out.bytes 0 (spell_items_as l.readable 0 (items_view l.items) l.levels);
       size : size_items_as l.readable l.index left ≤ size_items_as l.readable 0 (items_view l.items);
       grows : Grows l.initial.out l.out l.initial.steps l.steps;
+      least : l.initial.steps + length l.out.bytes + count_of tree_places (spell_items_as l.readable 0 (items_view l.items) l.levels) ≤ l.steps + length l.initial.out.bytes + count_of tree_places (spell_items_as l.readable l.index left l.levels);
     }
 
 abbrev pub decreases-put_value : goal.decreases-put_value

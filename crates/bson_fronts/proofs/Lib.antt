@@ -1,6 +1,0 @@
-pub mod Base64Groups
-pub mod Places
-pub mod Begun
-pub mod Behind
-pub mod Lone
-pub mod Ways

@@ -1,9 +1,0 @@
-use Rattle.std.proofs.Common.{length}
-use Rattle.bson_fronts.proofs.Base64Groups.{IsJudged}
-use Rattle.bson_fronts.proofs.base64_text.is_base64.Given as goal
-
-abbrev pub invariant-groups : goal.invariant-groups
-invariant-groups l = IsJudged l.initial.rest l.rest
-
-abbrev pub decreases-groups : goal.decreases-groups
-decreases-groups l = length l.rest

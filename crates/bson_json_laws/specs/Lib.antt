@@ -1,0 +1,13 @@
+pub mod Doubles
+pub mod FailureView
+pub mod Gives
+pub mod Held
+pub mod JsonOf
+pub mod JsonText
+pub mod Printed
+pub mod Read
+pub mod ReadText
+pub mod Relaxed
+pub mod TextFault
+pub mod Unread
+pub mod WrapperKeys

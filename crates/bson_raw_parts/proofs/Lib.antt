@@ -1,0 +1,2 @@
+pub mod Rawless
+pub mod BuiltValues
