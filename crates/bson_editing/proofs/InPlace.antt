@@ -1,5 +1,5 @@
 -- The walk of an edited document is the walk that was made.
-use Rattle.std.proofs.Common.{◌≡◌, ℕ, zero, suc, ◌+◌, ◌-◌, ◌<◌, ◌≤◌, ◌^◌, [], ◌∷◌, ◌++◌, length, take, drop, Bool, true, false, cond, Option, Some, None, Result, Ok, Err, refl, ap, sym, subst, ◌∙◌, arith}
+use Rattle.std.proofs.Common.{◌≡◌, ℕ, ◌+◌, ◌-◌, ◌≤◌, length, Bool, true, false, cond, Option, Some, None, Result, Ok, Err, refl, ap, sym, subst, ◌∙◌, arith}
 use Rattle.std.specs.Prelude.{nat_lt, ◌||◌}
 use Rattle.std.specs.Str.{is_utf8}
 use Rattle.std.proofs.lemmas.Bool.{ltb-false}
@@ -9,7 +9,7 @@ use Rattle.bson_kinds.specs.declared.element_type.ElementType.{ElementType}
 use Rattle.bson_kinds.specs.declared.element_type.ElementType.TheVariants.{Double, String, EmbeddedDocument, Array, Binary, Undefined, ObjectId, Boolean, DateTime, Null, RegularExpression, DbPointer, JavaScriptCode, Symbol, JavaScriptCodeWithScope, Int32, Timestamp, Int64, Decimal128, MaxKey, MinKey}
 use Rattle.bson_kinds.proofs.Outcomes.{bind_ok, map_ok}
 use Rattle.bson_base.specs.Sound.{max_bytes}
-use Rattle.bson_base.specs.Tree.{Tree, kind, enc, depth, element, enclosed}
+use Rattle.bson_base.specs.Tree.{Tree, kind, enc, depth, enclosed}
 use Rattle.bson_faults.specs.declared.raw.Error.{Error}
 use Rattle.bson_rawdoc.specs.Envelope.{envelope, inside}
 use Rattle.bson_rawdoc.specs.Extent.{extent}
@@ -17,7 +17,7 @@ use Rattle.bson_rawdoc.specs.Walk.{Element, Walk, ended, faulty, then_walk, walk
 use Rattle.bson_laws.proofs.Closed.{inside_again}
 use Rattle.bson_laws.proofs.Framed.{frame}
 use Rattle.bson_values.specs.Refusal.{Segment, at_key, inside as at_segment}
-use Rattle.bson_editing.specs.Edited.{Value, value_of, with_key, Changing, Editing, Outcome, Around, segment, new_key, has_key, renamed, refused, taken, too_long, too_deep, in_place, each_edited, behind, joined, enclosed_within, all_edited, made_of, of_envelope, nested, changed, with_nested, absent, new_value, put_value, put_absent, chosen, edited_as, edited_by, missing_by, edited_walk, edited_in, edited}
+use Rattle.bson_editing.specs.Edited.{Value, value_of, with_key, Changing, Editing, Outcome, Around, segment, new_key, has_key, renamed, refused, taken, too_long, too_deep, in_place, each_edited, behind, joined, enclosed_within, all_edited, of_envelope, nested, changed, with_nested, absent, new_value, put_value, put_absent, chosen, edited_as, edited_by, missing_by, edited_walk, edited_in, edited}
 use Rattle.bson_editing.specs.Plan.{Edit, keep, drop_it, change, inside_it, Steps, no_steps, step, is_for}
 use Rattle.bson_editing.specs.Settled.{GivesValues, IsName, IsLiteral, IsNameOf, AreNames}
 use Rattle.bson_editing.proofs.Again.{IsGood, IsWhole, AreGood, walk_joined, walk_good, enclosed_whole}
@@ -149,7 +149,7 @@ as_good : {X : Type 0} (r : Changing X) (edit : Edit) (levels : ℕ) (key : Utf8
     → IsGoodOption o
 as_good r keep levels key v o values whole text clean h = good_value key v o text clean whole h
 as_good r drop_it levels key v o values whole text clean h = let is : None ≡ o = cc in subst IsGoodOption is tt
-as_good r (change n) levels key v o values whole text clean h = changed_good key (r n levels v) o (λ m is. values n levels v m is) text clean h
+as_good r (change n) levels key v o values whole text clean h = changed_good key (r n levels v) o (λ m is. values n levels v m whole is) text clean h
 as_good r (inside_it steps) levels key v o values whole text clean h = nested_good r steps levels key v (nested v.kind) o refl whole text clean h
 
 abbrev IsKey : Utf8 → Type 0

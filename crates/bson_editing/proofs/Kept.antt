@@ -1,5 +1,5 @@
 -- Where each element stays as it is and nothing is missing, an edited document is itself.
-use Rattle.std.proofs.Common.{◌≡◌, ℕ, suc, ◌+◌, ◌-◌, ◌^◌, ◌<◌, ◌≤◌, [], ◌∷◌, ◌++◌, length, take, drop, Bool, true, false, cond, ltb, Option, Some, None, Result, Ok, Err, refl, ap, sym, subst, ◌∙◌, arith, pos, negsuc}
+use Rattle.std.proofs.Common.{◌≡◌, ℕ, suc, ◌+◌, ◌-◌, ◌^◌, ◌≤◌, [], ◌∷◌, ◌++◌, length, drop, Bool, true, false, cond, ltb, Option, Some, None, Ok, Err, refl, ap, sym, subst, ◌∙◌, arith, pos, negsuc}
 use Rattle.std.specs.Prelude.{nat_lt, ◌||◌}
 use Rattle.std.specs.Int.{w32, from_le_bytes}
 use Rattle.std.proofs.lemmas.Bool.{le-ltb}
@@ -15,8 +15,8 @@ use Rattle.bson_rawdoc.proofs.Counts.{length_below}
 use Rattle.bson_laws.proofs.Framed.{frame}
 use Rattle.bson_itself.proofs.Parts.{framed}
 use Rattle.bson_values.specs.Refusal.{inside as at_segment}
-use Rattle.bson_editing.specs.Edited.{Changing, Editing, Outcome, Around, segment, value_of, has_key, renamed, refused, too_long, in_place, each_edited, behind, joined, enclosed_within, all_edited, made_of, of_envelope, absent, put_absent, chosen, edited_as, edited_by, missing_by, edited_in, edited}
-use Rattle.bson_editing.specs.Plan.{Steps, no_steps, step, is_for}
+use Rattle.bson_editing.specs.Edited.{Changing, Editing, Outcome, Around, segment, value_of, has_key, renamed, refused, too_long, in_place, each_edited, behind, joined, enclosed_within, made_of, of_envelope, absent, put_absent, chosen, edited_as, edited_by, missing_by, edited_in, edited}
+use Rattle.bson_editing.specs.Plan.{Steps, no_steps, step}
 use Rattle.bson_editing.specs.Settled.{IsForNone, AreForNone, IsThere, LacksNothing}
 use Rattle.bson_editing.proofs.Again.{IsWhole, joined_is}
 

@@ -1,27 +1,26 @@
 -- An edited document is the same when it is edited again.
-use Rattle.std.proofs.Common.{◌≡◌, ℕ, ◌+◌, ◌-◌, ◌<◌, ◌≤◌, ◌^◌, [], ◌∷◌, ◌++◌, length, Bool, true, false, cond, Option, Some, None, Result, Ok, Err, refl, ap, sym, subst, ◌∙◌, inl, inr, arith, pos}
+use Rattle.std.proofs.Common.{◌≡◌, ℕ, ◌+◌, ◌-◌, ◌≤◌, [], ◌∷◌, ◌++◌, length, Bool, true, false, cond, Option, Some, None, Result, Ok, Err, refl, ap, sym, subst, ◌∙◌, inl, inr, arith, pos}
 use Rattle.std.specs.Prelude.{◌⊎◌, ◌||◌}
 use Rattle.std.specs.Str.{bytes_eq}
 use Rattle.std.proofs.lemmas.Slice.Eq.{bytes_eq-Decides}
 use Rattle.bson_kinds.specs.Text.{Bytes, Utf8}
 use Rattle.bson_kinds.specs.Outcome.{◌>>=◌, result_map}
-use Rattle.bson_kinds.specs.declared.element_type.ElementType.{ElementType}
 use Rattle.bson_kinds.proofs.Outcomes.{bind_ok, map_ok}
 use Rattle.bson_base.specs.Sound.{max_bytes}
 use Rattle.bson_base.specs.Tree.{Tree, enclosed}
 use Rattle.bson_base.proofs.Lengths.{length-enclosed}
-use Rattle.bson_rawdoc.specs.Envelope.{envelope, inside}
+use Rattle.bson_rawdoc.specs.Envelope.{envelope}
 use Rattle.bson_rawdoc.specs.Walk.{Element, Walk, ended, faulty, then_walk, walk}
 use Rattle.bson_laws.proofs.Closed.{inside_again, closed_again}
 use Rattle.bson_laws.proofs.Framed.{framed}
 use Rattle.bson_laws.proofs.Numbers.{length_again}
-use Rattle.bson_values.specs.Refusal.{Segment, at_key, inside as at_segment}
+use Rattle.bson_values.specs.Refusal.{at_key, inside as at_segment}
 use Rattle.bson_editing.specs.Edited.{Value, value_of, with_key, Changing, Editing, Outcome, Around, segment, has_key, new_key, renamed, refused, taken, in_place, each_edited, behind, joined, made_of, of_envelope, nested, changed, with_nested, absent, new_value, put_value, put_absent, chosen, edited_as, edited_by, missing_by, edited_in, edited}
 use Rattle.bson_editing.specs.Plan.{Edit, keep, drop_it, change, inside_it, Steps, no_steps, step, is_for}
 use Rattle.bson_editing.specs.Settled.{GivesValues, IsSettled, IsForNone, IsThere, LacksNothing, AreNames, first_for, LeavesNoneOut, IsFreshName, StaysPut, AreFreshNames, IsFresh, AreFresh}
 use Rattle.bson_editing.proofs.Again.{IsWhole}
 use Rattle.bson_editing.proofs.Edits.{each_whole}
-use Rattle.bson_editing.proofs.InPlace.{given, never, MakesGood, AreMore, IsMade, made_is, walk_made, from_envelope, inside_is, makes_good, missing_good}
+use Rattle.bson_editing.proofs.InPlace.{given, never, MakesGood, AreMore, made_is, walk_made, from_envelope, inside_is, makes_good, missing_good}
 use Rattle.bson_editing.proofs.Kept.{IsFramed, StayAll, document_kept, none_edited, none_missing}
 
 -- ---- a document that was made is one

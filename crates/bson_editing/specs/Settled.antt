@@ -34,9 +34,13 @@ LacksNothing (step name to missing edit rest) w = IsThere name missing w × Lack
 
 -- ---- changes
 
--- What a change makes of a value are the bytes of one value of its kind.
+-- The bytes are those of one value of the kind.
+abbrev pub IsValue : Value → Type 0
+IsValue v = extent v.kind v.bytes ≡ Ok (length v.bytes)
+
+-- What a change makes of a value is a value.
 abbrev pub GivesValues : {X : Type 0} → Changing X → Type 0
-GivesValues r = (n levels : ℕ) (v made : Value) → r n levels v ≡ Ok made → extent made.kind made.bytes ≡ Ok (length made.bytes)
+GivesValues r = (n levels : ℕ) (v made : Value) → IsValue v → r n levels v ≡ Ok made → IsValue made
 
 -- What a change makes of a value it makes of it again.
 abbrev pub IsSettled : {X : Type 0} → Changing X → Type 0
