@@ -1,5 +1,5 @@
 -- Elements one behind another are walked again, whatever values they have, and are the bytes that were walked.
-use Rattle.std.proofs.Common.{◌≡◌, ℕ, zero, suc, ◌+◌, ◌-◌, ◌^◌, ◌<◌, ◌≤◌, [], ◌∷◌, ◌++◌, length, take, drop, Bool, true, false, cond, Option, Some, None, Result, Ok, Err, refl, ap, sym, subst, ◌∙◌, arith}
+use Rattle.std.proofs.Common.{◌≡◌, ℕ, zero, suc, ◌+◌, ◌^◌, ◌<◌, ◌≤◌, [], ◌∷◌, ◌++◌, length, take, drop, Bool, true, false, cond, Option, Some, None, Result, Ok, Err, refl, ap, sym, subst, ◌∙◌, arith}
 use Rattle.std.specs.Prelude.{nat_lt, option_map, option_and_then}
 use Rattle.std.specs.Str.{is_utf8}
 use Rattle.std.proofs.lemmas.Bool.{le-ltb, ltb-false, cond-true, cond-false}
@@ -23,7 +23,7 @@ use Rattle.bson_rawdoc.proofs.Extents.{announced_is, announced_found, number_wit
 use Rattle.bson_rawdoc.proofs.Walks.{walk-nil, walk_ok, walk_err, element_shorter}
 use Rattle.bson_laws.proofs.Closed.{cut_again}
 use Rattle.bson_laws.proofs.Numbers.{length_again}
-use Rattle.bson_pass_parts.specs.Run.{IsHead, size}
+use Rattle.bson_pass_parts.specs.Run.{size}
 use Rattle.bson_pass_parts.proofs.Runs.{first_head}
 use Rattle.bson_editing.specs.Edited.{joined}
 

@@ -3,7 +3,7 @@ use Rattle.std.proofs.Common.{◌≡◌, ℕ, zero, suc, ◌+◌, ◌-◌, ◌<�
 use Rattle.std.specs.Prelude.{option_map, reverse}
 use Rattle.std.specs.Global.{Vec}
 use Rattle.std.proofs.lemmas.Bool.{le-ltb, lt-ltb}
-use Rattle.std.proofs.lemmas.List.{append_assoc, length-append, drop_all}
+use Rattle.std.proofs.lemmas.List.{append_assoc, length-append}
 use Rattle.bson_kinds.specs.Kind.{byte}
 use Rattle.bson_kinds.specs.Text.{Bytes, Utf8}
 use Rattle.bson_kinds.specs.Outcome.{◌>>=◌, result_map}
@@ -11,7 +11,6 @@ use Rattle.bson_kinds.proofs.Outcomes.{bind_ok, map_ok}
 use Rattle.bson_kinds.specs.declared.element_type.ElementType.{ElementType}
 use Rattle.bson_base.specs.Sound.{max_bytes}
 use Rattle.bson_base.specs.Tree.{element, enclosed}
-use Rattle.bson_faults.specs.declared.raw.Error.{Error}
 use Rattle.bson_rawdoc.specs.Envelope.{envelope}
 use Rattle.bson_rawdoc.specs.Walk.{Element, Walk, ended, faulty, then_walk, walk_elements, walk}
 use Rattle.bson_values.specs.Refusal.{Segment, inside}
@@ -20,9 +19,9 @@ use Rattle.bson_values.specs.declared.stop.Stop.{Stop}
 use Rattle.bson_values.specs.declared.stop.Stop.TheVariants as stops
 use Rattle.bson_pass_parts.specs.Run.{IsHead, run, size}
 use Rattle.bson_pass_parts.proofs.Pieces.{enclosed_put}
-use Rattle.bson_pass_parts.proofs.Runs.{run_none, run_next, walk_next, next_within, head_at}
+use Rattle.bson_pass_parts.proofs.Runs.{run_none, run_next, walk_next, next_within}
 use Rattle.bson_editing.specs.Answers.{IsFault, IsTold, Appends, IsTaken, outcome_bytes}
-use Rattle.bson_editing.specs.Edited.{Value, value_of, Changing, Editing, Outcome, Around, segment, renamed, refused, too_long, in_place, each_edited, behind, joined, enclosed_within, all_edited, made_of, of_envelope, nested, with_nested, absent, put_absent, chosen, edited_as, edited_by, missing_by, edited_in}
+use Rattle.bson_editing.specs.Edited.{Value, value_of, Changing, Editing, Outcome, Around, segment, renamed, refused, too_long, in_place, each_edited, behind, joined, enclosed_within, all_edited, of_envelope, nested, with_nested, absent, put_absent, chosen, edited_as, edited_by, missing_by, edited_in}
 use Rattle.bson_editing.specs.Literal.{tree_of}
 use Rattle.bson_editing.specs.Plan as plans
 use Rattle.bson_editing.specs.Plan.{is_for}

@@ -1,5 +1,5 @@
 -- What the calls give of an edit. Source: this library's own types.
-use Rattle.std.specs.Prelude.{◌≡◌, ℕ, ◌+◌, ◌-◌, ◌≤◌, ◌<◌, [], ◌++◌, length, take, drop, reverse, Bool, true, false, Option, Some, None, Result, Ok, Err, string_bytes}
+use Rattle.std.specs.Prelude.{◌≡◌, [], ◌++◌, reverse, Bool, true, false, Option, Some, None, Result, Ok, Err, string_bytes}
 use Rattle.bson_kinds.specs.Text.{Bytes, Utf8}
 use Rattle.bson_base.specs.Tree.{element}
 use Rattle.bson_rawdoc.specs.Walk.{Element}

@@ -1,6 +1,5 @@
 -- The values that an edit can put where one is missing. Source: this library's own notation of edits.
-use Rattle.std.specs.Prelude.{ℤ, Bool, ◌≡◌, String, string_bytes}
-use Rattle.std.specs.declared.alloc.Global.{Global}
+use Rattle.std.specs.Prelude.{string_bytes}
 use Rattle.bson_base.specs.Tree.{Tree, null, boolean, int32, int64, string, array, no_trees, document, no_pairs}
 use Rattle.bson_editing.specs.declared.literal.Literal.{Literal}
 use Rattle.bson_editing.specs.declared.literal.Literal.TheVariants as literals

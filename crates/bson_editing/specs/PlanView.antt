@@ -1,5 +1,5 @@
 -- What contracts see of the steps of an edit. Source: this library's own types.
-use Rattle.std.specs.Prelude.{ℕ, List, [], ◌∷◌, Option, Some, None, option_map, String, string_bytes}
+use Rattle.std.specs.Prelude.{List, [], ◌∷◌, Option, Some, None, option_map, String, string_bytes}
 use Rattle.std.specs.declared.alloc.Global.{Global}
 use Rattle.bson_kinds.specs.Text.{Utf8}
 use Rattle.bson_editing.specs.Literal.{tree_of}

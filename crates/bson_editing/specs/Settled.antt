@@ -34,9 +34,13 @@ LacksNothing (step name to missing edit rest) w = IsThere name missing w × Lack
 
 -- ---- changes
 
--- What a change makes of a value are the bytes of one value of its kind.
+-- The bytes are those of one value of the kind.
+abbrev pub IsValue : Value → Type 0
+IsValue v = extent v.kind v.bytes ≡ Ok (length v.bytes)
+
+-- What a change makes of a value is a value.
 abbrev pub GivesValues : {X : Type 0} → Changing X → Type 0
-GivesValues r = (n levels : ℕ) (v made : Value) → r n levels v ≡ Ok made → extent made.kind made.bytes ≡ Ok (length made.bytes)
+GivesValues r = (n levels : ℕ) (v made : Value) → IsValue v → r n levels v ≡ Ok made → IsValue made
 
 -- What a change makes of a value it makes of it again.
 abbrev pub IsSettled : {X : Type 0} → Changing X → Type 0
@@ -79,14 +83,14 @@ abbrev pub IsFreshName : (array : Bool) → (whole : Steps) → (to : Option Utf
 IsFreshName array whole None = Unit {0}
 IsFreshName array whole (Some to) = IsForNone array whole to
 
--- The first step of the whole for the name of what is put gives no new key, and leaves nothing out.
-abbrev pub StaysPut : (whole : Steps) → (name : Option Utf8) → (missing : Option Tree) → Type 0
-StaysPut whole (Some name) (Some t) = (edit : Edit) × (first_for whole name ≡ Some (None, edit)) × LeavesNoneOut edit
-StaysPut whole name missing = Unit {0}
+-- A step that puts an element is the first of the whole for its name, gives it no new key, and leaves it in.
+abbrev pub StaysPut : (whole : Steps) → (name : Option Utf8) → (missing : Option Tree) → Edit → Type 0
+StaysPut whole (Some name) (Some t) edit = (first_for whole name ≡ Some (None, edit)) × LeavesNoneOut edit
+StaysPut whole name missing edit = Unit {0}
 
 abbrev pub AreFreshNames : (array : Bool) → (whole : Steps) → Steps → Type 0
 AreFreshNames array whole no_steps = Unit {0}
-AreFreshNames array whole (step name to missing edit rest) = IsFreshName array whole to × StaysPut whole name missing × AreFreshNames array whole rest
+AreFreshNames array whole (step name to missing edit rest) = IsFreshName array whole to × StaysPut whole name missing edit × AreFreshNames array whole rest
 
 abbrev mutual
   -- The names that steps give are no names of steps beside them, and what they put stays, at each depth.

@@ -1,4 +1,4 @@
-use Rattle.std.proofs.Common.{◌≡◌, ◌≤◌, ◌-◌, length, drop}
+use Rattle.std.proofs.Common.{◌≡◌, ◌-◌, length, drop}
 use Rattle.bson_editing.specs.AroundView.{around_of}
 use Rattle.bson_editing.specs.Edited.{edited_by, missing_by}
 use Rattle.bson_editing.specs.PlanView.{steps_of}

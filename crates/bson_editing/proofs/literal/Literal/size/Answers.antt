@@ -1,4 +1,4 @@
-use Rattle.std.proofs.Common.{◌+◌, [], length, ap, sym, ◌∙◌, arith}
+use Rattle.std.proofs.Common.{◌+◌, [], length, ap, sym, ◌∙◌}
 use Rattle.bson_kinds.specs.Text.{Bytes}
 use Rattle.bson_base.specs.Tree.{enc}
 use Rattle.bson_base.proofs.Lengths.{length-le32, length-le64, length-text, length-enclosed}
