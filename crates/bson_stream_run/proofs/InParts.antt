@@ -1,13 +1,13 @@
 -- A file is migrated as its parts are.
-use Rattle.std.proofs.Common.{◌≡◌, ℕ, zero, suc, ◌+◌, List, [], ◌∷◌, ◌++◌, map, length, Option, Some, None, refl, ap, sym, subst, ◌∙◌, arith}
+use Rattle.std.proofs.Common.{◌≡◌, ℕ, suc, ◌+◌, List, [], ◌∷◌, ◌++◌, map, length, Option, Some, None, refl, ap, sym, ◌∙◌, arith}
 use Rattle.std.proofs.lemmas.List.{append_assoc}
 use Rattle.std.specs.Prelude.{option_map}
 use Rattle.bson_kinds.specs.Text.{Bytes}
 use Rattle.bson_rawdoc.specs.Cut.{Cut, cut}
-use Rattle.bson_parts.specs.Parts.{moved, behind}
+use Rattle.bson_parts.specs.Parts.{moved}
 use Rattle.bson_shape.specs.Form.{Form}
 use Rattle.bson_tree_recast.specs.Recast.{Recast, writes, unread, unwritten, recast_of}
-use Rattle.bson_migrate_run.specs.Migrating.{NotRecast, Migrating, broken, migrated, bytes_of, outputs, listed, not_recast, migration_by, migration_of}
+use Rattle.bson_migrate_run.specs.Migrating.{NotRecast, bytes_of, outputs, listed, not_recast, migration_by, migration_of}
 use Rattle.bson_stream_run.specs.Parts.{renumbered, in_parts}
 use Rattle.bson_parts.proofs.Parts.{cut_in_parts}
 

@@ -1,10 +1,9 @@
 -- A run of the stream beside the migration of the same file.
-use Rattle.std.proofs.Common.{◌≡◌, ℕ, ◌+◌, ◌<◌, ◌≤◌, ◌^◌, Bool, true, false, List, [], ◌∷◌, ◌++◌, length, min, codes, Option, Some, None, Result, Ok, Err, refl, ap, sym, subst, ◌∙◌, inl, inr, arith, append-nil}
+use Rattle.std.proofs.Common.{◌≡◌, ℕ, ◌<◌, ◌^◌, Bool, true, false, List, [], ◌∷◌, length, Some, None, Ok, Err, refl, ap, sym, subst, ◌∙◌, inl, inr, arith, append-nil}
 use Rattle.std.specs.Prelude.{◌⊎◌, if◌then◌else◌}
 use Rattle.std.specs.Io.KnownBytes.{Appends, IsAtEnd}
 use Rattle.bson_kinds.specs.Text.{Bytes, Utf8}
-use Rattle.bson_kinds.specs.Outcome.{◌>>=◌}
-use Rattle.bson_io.specs.Ends.{last_count, RoseOrLast, Rose}
+use Rattle.bson_io.specs.Ends.{last_count, RoseOrLast}
 use Rattle.bson_rawdoc.specs.Cut.{Cut, cut}
 use Rattle.bson_shape.specs.Form.{Form}
 use Rattle.bson_shape.specs.Machine.{parsed}
@@ -12,24 +11,21 @@ use Rattle.bson_shape.specs.Makers.{IsShape}
 use Rattle.bson_shape.specs.Notation.{text}
 use Rattle.bson_shape.proofs.Texts.{parsed-shape}
 use Rattle.bson_program.specs.Command.{IsAskedFor, IsRefused}
-use Rattle.bson_program.specs.Ends.{SourceChange, SinkChange}
-use Rattle.bson_program.specs.FileLines.{broken_line}
 use Rattle.bson_program.specs.Run.{Run, AllQuiet, AreWritten}
 use Rattle.bson_program.specs.ShapeWord.{or_line}
-use Rattle.bson_migrate_run.specs.Lines.{AreLines}
-use Rattle.bson_migrate_run.specs.Migrating.{NotRecast, Migrating, migrated, broken, outputs, not_recast, migration_by, migration_of}
-use Rattle.bson_migrate_run.specs.Rows.{migration_status, WritesMigrated}
+use Rattle.bson_migrate_run.specs.Migrating.{NotRecast, migrated, broken, outputs, not_recast, migration_by, migration_of}
+use Rattle.bson_migrate_run.specs.Rows.{migration_status}
 use Rattle.bson_migrate_run.specs.declared.status.MigrateStatus.{MigrateStatus}
 use Rattle.bson_migrate_run.specs.declared.status.MigrateStatus.TheVariants as statuses
 use Rattle.bson_streaming.specs.Answers as answers
 use Rattle.bson_streaming.specs.Answers.{lines, has_refused, AreGiven}
-use Rattle.bson_streaming.specs.Streamed.{Answered, CutOff, IsStreamed}
+use Rattle.bson_streaming.specs.Streamed.{Answered, IsStreamed}
 use Rattle.bson_streaming.specs.declared.closing.Ending.{Ending}
 use Rattle.bson_streaming.specs.declared.closing.Ending.TheVariants as endings
 use Rattle.bson_streaming.proofs.Files.{came_within, whole_came, broken_cut}
 use Rattle.bson_stream_run.specs.Migrates.{Writes, Migrates}
 use Rattle.bson_stream_run.specs.Recasts.{recasts}
-use Rattle.bson_stream_run.specs.Rows.{status_of, RecastRow, UsageRow, IsRun}
+use Rattle.bson_stream_run.specs.Rows.{status_of, IsRun}
 use Rattle.bson_stream_run.specs.Words.{stream_command}
 use Rattle.bson_stream_run.proofs.Recast.{is_some_list, outputs_same, lines_same, refused_same}
 

@@ -1,5 +1,5 @@
 -- The answers of a stream that recasts, beside the migration of the file.
-use Rattle.std.proofs.Common.{◌≡◌, ℕ, suc, ◌+◌, Bool, true, false, List, [], ◌∷◌, ◌++◌, Option, Some, None, Result, Ok, Err, refl, ap, sym, subst, ◌∙◌, append_assoc}
+use Rattle.std.proofs.Common.{◌≡◌, ℕ, suc, Bool, true, false, List, [], ◌∷◌, ◌++◌, Result, Ok, Err, refl, ap, sym, subst, ◌∙◌}
 use Rattle.std.specs.Prelude.{◌||◌, ◌≢◌, IfOk, String, string_bytes}
 use Rattle.std.specs.declared.alloc.AllocError.{AllocError}
 use Rattle.std.specs.declared.alloc.Global.{Global}
@@ -10,7 +10,7 @@ use Rattle.bson_tree_recast.specs.Recast.{Recast, writes, unread, unwritten, rec
 use Rattle.bson_tree_recast.specs.Printed.{write_refused, recast_error_text}
 use Rattle.bson_tree_recast.specs.declared.error.RecastError.{RecastError}
 use Rattle.bson_tree_recast.specs.declared.error.RecastError.TheVariants as errors
-use Rattle.bson_values.specs.ErrorView.{read_failure, write_failure}
+use Rattle.bson_values.specs.ErrorView.{write_failure}
 use Rattle.bson_migrate_run.specs.Lines.{IsLine, AreLines}
 use Rattle.bson_migrate_run.specs.Migrating.{NotRecast, listed, not_recast}
 use Rattle.bson_migrate_run.specs.Migrating as migrating

@@ -1,5 +1,5 @@
 -- What is answered to a document that is recast. Source: this library's own programs.
-use Rattle.std.specs.Prelude.{◌≡◌, Result, Ok, Err}
+use Rattle.std.specs.Prelude.{◌≡◌, Ok, Err}
 use Rattle.bson_kinds.specs.Text.{Bytes, Utf8}
 use Rattle.bson_shape.specs.Form.{Form}
 use Rattle.bson_values.specs.Refusal.{WriteFault, Failure}

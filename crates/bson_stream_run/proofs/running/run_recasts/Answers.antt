@@ -1,7 +1,4 @@
-use Rattle.std.proofs.Common.{inl, sym, refl}
-use Rattle.bson_shape.specs.Form.{Form}
-use Rattle.bson_streaming.specs.Streamed.{IsStreamed}
-use Rattle.bson_stream_run.specs.Recasts.{recasts}
+use Rattle.std.proofs.Common.{inl}
 use Rattle.bson_stream_run.proofs.Recast.{stays}
 use Rattle.bson_stream_run.proofs.running.run_recasts.Goals as goal
 
