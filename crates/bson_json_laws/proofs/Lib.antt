@@ -1,7 +1,13 @@
+pub mod Depths
 pub mod DoubleTexts
+pub mod Failures
+pub mod FileLines
 pub mod FloatTexts
 pub mod JoinedPairs
+pub mod JsonWrappers
 pub mod ReadBack
+pub mod Refusals
 pub mod RelaxedBack
 pub mod TextBack
 pub mod Textual
+pub mod Visible

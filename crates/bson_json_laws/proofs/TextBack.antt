@@ -1,7 +1,7 @@
 -- A text is JSON, and the canonical one is read as its value.
-use Rattle.std.proofs.Common.{◌≡◌, ℕ, suc, ◌+◌, ◌*◌, ◌≤◌, [], Bool, true, false, ℤ, pos, negsuc, Some, refl, ap, sym, subst, ◌∙◌, arith, append-nil, FitsSigned, w64, inl, inr}
+use Rattle.std.proofs.Common.{◌≡◌, ℕ, suc, ◌+◌, ◌*◌, ◌≤◌, [], Bool, true, false, ℤ, pos, negsuc, Some, refl, ap, sym, subst, ◌∙◌, arith, append-nil, FitsSigned, w64, inl, inr, leb}
 use Rattle.std.specs.Prelude.{codes, option_and_then, None, Ok}
-use Rattle.std.proofs.lemmas.Bool.{le-leb}
+use Rattle.std.proofs.lemmas.Bool.{le-leb, leb-true}
 use Rattle.bson_kinds.specs.Outcome.{◌>>=◌}
 use Rattle.std.specs.Fmt.{decimal}
 use Rattle.std.specs.Float.{float_is_finite}
@@ -21,9 +21,9 @@ use Rattle.bson_json_laws.specs.Read.{read}
 use Rattle.bson_json_laws.specs.ReadText.{json_of_text, only_document, document_of_text}
 use Rattle.bson_json_laws.specs.Held.{IsHeld, ArePairsHeld, AreTreesHeld}
 use Rattle.bson_json_laws.specs.Relaxed.{relaxed_pairs}
-use Rattle.bson_json_laws.specs.TextFault.{pairs_text_fault}
+use Rattle.bson_json_laws.specs.TextFault.{pairs_text_fault, levels_fault, document_text_fault}
 use Rattle.bson_json_laws.specs.Unread.{Reading, or_refused, not_json}
-use Rattle.bson_json_laws.proofs.Textual.{pairs_textual}
+use Rattle.bson_json_laws.proofs.Textual.{neither, pairs_textual}
 use Rattle.bson_json_laws.proofs.RelaxedBack.{relaxed_back, same_pairs_depth}
 use Rattle.bson_json_laws.specs.declared.form.JsonForm.{JsonForm}
 use Rattle.bson_json_laws.specs.declared.form.JsonForm.TheVariants.{Canonical, Relaxed}
@@ -159,6 +159,16 @@ text_is_json form t text h small w =
     (ap (value 403) (tokens-print (json_tokens w.json) (ArePrintable-json_tokens w.json (has_numbers form t w.json h w.is_json)) ∙ sym (append-nil (json_tokens w.json)))
     ∙ value-json_tokens w.json 403 [] deep)
 
+-- a document without a fault
+few_levels : (n : ℕ) (b : Bool) → leb n 200 ≡ b → levels_fault b ≡ None → n ≤ 200
+few_levels n true e h = leb-true n 200 e
+few_levels n false e h = absurd cc
+
+pub no_fault : (ps : Pairs) → document_text_fault ps ≡ None → (pairs_text_fault ps ≡ None) × (depth (document ps) ≤ 200)
+no_fault ps e =
+    let two = neither (pairs_text_fault ps) (levels_fault (leb (depth (document ps)) 200)) e in
+    (two.0, few_levels (depth (document ps)) (leb (depth (document ps)) 200) refl two.1)
+
 -- a document of at most 200 levels
 within_levels : (ps : Pairs) → depth (document ps) ≤ 200 → only_document (document ps) ≡ Ok ps
 within_levels ps small = rw (le-leb (depth (document ps)) 200 small) refl
@@ -168,20 +178,22 @@ read_as ps qs text j e r small =
     ap (λ o. (or_refused not_json o >>= read) >>= only_document) e ∙ ap (λ (a : Reading Tree). a >>= only_document) r ∙ within_levels qs small
 
 -- the canonical text of a document is read as it again
-pub text_back : (ps : Pairs) (text : Utf8) → ArePairsHeld ps → pairs_text_fault ps ≡ None → depth (document ps) ≤ 200 → IsText Canonical (document ps) text → document_of_text text ≡ Ok ps
-text_back ps text h none small w =
-    read_as ps ps text w.json (text_is_json Canonical (document ps) text h small w) (reads_back (document ps) w.json (pairs_textual ps h none) w.is_json) small
+pub text_back : (ps : Pairs) (text : Utf8) → ArePairsHeld ps → document_text_fault ps ≡ None → IsText Canonical (document ps) text → document_of_text text ≡ Ok ps
+text_back ps text h e w =
+    let none = no_fault ps e in
+    read_as ps ps text w.json (text_is_json Canonical (document ps) text h none.1 w) (reads_back (document ps) w.json (pairs_textual ps h none.0) w.is_json) none.1
 
 ok_same : (x y : Pairs) (r : Reading Pairs) → r ≡ Ok x → r ≡ Ok y → x ≡ y
 ok_same x y r e f = cc
 
 -- so no two documents have the same canonical text
-pub text_injective : (ps qs : Pairs) (text : Utf8) → ArePairsHeld ps → ArePairsHeld qs → pairs_text_fault ps ≡ None → pairs_text_fault qs ≡ None → depth (document ps) ≤ 200 → depth (document qs) ≤ 200
+pub text_injective : (ps qs : Pairs) (text : Utf8) → ArePairsHeld ps → ArePairsHeld qs → document_text_fault ps ≡ None → document_text_fault qs ≡ None
     → IsText Canonical (document ps) text → IsText Canonical (document qs) text → ps ≡ qs
-text_injective ps qs text h k none neither small flat w v = ok_same ps qs (document_of_text text) (text_back ps text h none small w) (text_back qs text k neither flat v)
+text_injective ps qs text h k e f w v = ok_same ps qs (document_of_text text) (text_back ps text h e w) (text_back qs text k f v)
 
 -- the relaxed text is read as the document, but for the widths of integers
-pub relaxed_text_back : (ps : Pairs) (text : Utf8) → ArePairsHeld ps → pairs_text_fault ps ≡ None → depth (document ps) ≤ 200 → IsText Relaxed (document ps) text → document_of_text text ≡ Ok (relaxed_pairs ps)
-relaxed_text_back ps text h none small w =
-    let deep : depth (document (relaxed_pairs ps)) ≤ 200 = subst (λ n. n ≤ 200) (sym (ap suc (same_pairs_depth ps))) small in
-    read_as ps (relaxed_pairs ps) text w.json (text_is_json Relaxed (document ps) text h small w) (relaxed_back (document ps) w.json (pairs_textual ps h none) w.is_json) deep
+pub relaxed_text_back : (ps : Pairs) (text : Utf8) → ArePairsHeld ps → document_text_fault ps ≡ None → IsText Relaxed (document ps) text → document_of_text text ≡ Ok (relaxed_pairs ps)
+relaxed_text_back ps text h e w =
+    let none = no_fault ps e in
+    let deep : depth (document (relaxed_pairs ps)) ≤ 200 = subst (λ n. n ≤ 200) (sym (ap suc (same_pairs_depth ps))) none.1 in
+    read_as ps (relaxed_pairs ps) text w.json (text_is_json Relaxed (document ps) text h none.1 w) (relaxed_back (document ps) w.json (pairs_textual ps h none.0) w.is_json) deep

@@ -55,7 +55,7 @@ abbrev mutual
 
 -- ---- where there is no fault
 
-neither : {A : Type 0} (a b : Option A) → or_else a b ≡ None → (a ≡ None) × (b ≡ None)
+pub neither : {A : Type 0} (a b : Option A) → or_else a b ≡ None → (a ≡ None) × (b ≡ None)
 neither None b e = (refl, e)
 neither (Some x) b e = cc
 
@@ -74,7 +74,7 @@ double_same bytes e =
       | inr other ↦ cc (rw other at e)
     ]
 
-these_are : (bytes : Bytes) (o : Option Bytes) → are_these bytes o ≡ true → o ≡ Some bytes
+pub these_are : (bytes : Bytes) (o : Option Bytes) → are_these bytes o ≡ true → o ≡ Some bytes
 these_are bytes None e = absurd (true≢false (sym e))
 these_are bytes (Some others) e = ap Some ((bytes_eq-Decides others bytes).0 e)
 

@@ -4,6 +4,7 @@ pub mod Gives
 pub mod Held
 pub mod JsonOf
 pub mod JsonText
+pub mod Lines
 pub mod Printed
 pub mod Read
 pub mod ReadText

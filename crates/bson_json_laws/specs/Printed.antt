@@ -11,12 +11,14 @@ use Rattle.bson_json_laws.specs.declared.failure.Failure.TheVariants.{At, NoMemo
 use Rattle.bson_json_laws.specs.declared.json_fault.JsonFault.{JsonFault}
 use Rattle.bson_json_laws.specs.declared.json_fault.JsonFault.TheVariants.{NotJson, BadWrapper, KeyTwice, NumberTooLarge, NotDocument, TooDeep}
 use Rattle.bson_json_laws.specs.declared.text_fault.TextFault.{TextFault}
+use Rattle.bson_json_laws.specs.declared.text_fault.TextFault.TheVariants as text_faults
 use Rattle.bson_json_laws.specs.declared.text_fault.TextFault.TheVariants.{WrapperKey, OddNan, OddDecimal}
 
 abbrev pub printed_text_fault : TextFault → Utf8
 printed_text_fault WrapperKey = codes "wrapper key"
 printed_text_fault OddNan = codes "NaN with other bytes"
 printed_text_fault OddDecimal = codes "decimal with other bytes"
+printed_text_fault text_faults.TooDeep = codes "nested deeper than 200 levels"
 
 abbrev pub printed_json_fault : JsonFault → Utf8
 printed_json_fault (NotJson place) = codes "not JSON at byte " ++ decimal place

@@ -1,17 +1,18 @@
 -- Why the canonical text of a value is not read as the value. Source: MongoDB's extended JSON, version 2, "Parsers": an object with a wrapper key must be of its form; no text tells the bytes of
--- a NaN, or of a decimal that is not canonical.
-use Rattle.std.specs.Prelude.{ℕ, suc, Bool, false, if◌then◌else◌, Option, Some, None, option_map, is_some, codes}
+-- a NaN, or of a decimal that is not canonical; and what nests too deep is not read.
+use Rattle.std.specs.Prelude.{ℕ, suc, nat_le, Bool, false, if◌then◌else◌, Option, Some, None, option_map, is_some, codes}
 use Rattle.std.specs.Str.{bytes_eq}
 use Rattle.bson_decimals.specs.Decimals.{decimal_text}
 use Rattle.bson_decimals.specs.Reading.{decimal_of_text}
 use Rattle.bson_kinds.specs.Outcome.{or_else}
 use Rattle.bson_kinds.specs.Text.{Bytes, Utf8}
-use Rattle.bson_base.specs.Tree.{Tree, double, document, array, javascript_code_with_scope, decimal128, Pairs, no_pairs, pair, Trees, no_trees, tree}
+use Rattle.bson_base.specs.Sound.{max_levels}
+use Rattle.bson_base.specs.Tree.{Tree, double, document, array, javascript_code_with_scope, decimal128, Pairs, no_pairs, pair, Trees, no_trees, tree, depth}
 use Rattle.bson_values.specs.Refusal.{Refusal, here, in_segment, Segment, at_key, at_index}
 use Rattle.bson_json_laws.specs.Doubles.{float_in, double_bytes}
 use Rattle.bson_json_laws.specs.WrapperKeys.{wrapper_of}
 use Rattle.bson_json_laws.specs.declared.text_fault.TextFault.{TextFault}
-use Rattle.bson_json_laws.specs.declared.text_fault.TextFault.TheVariants.{WrapperKey, OddNan, OddDecimal}
+use Rattle.bson_json_laws.specs.declared.text_fault.TextFault.TheVariants.{WrapperKey, OddNan, OddDecimal, TooDeep}
 
 -- the key is a wrapper key
 abbrev pub key_fault : Utf8 → Option (Refusal TextFault)
@@ -50,3 +51,11 @@ abbrev mutual
   pub trees_text_fault : ℕ → Trees → Option (Refusal TextFault)
   trees_text_fault i no_trees = None
   trees_text_fault i (tree t ts) = or_else (fault_in (at_index i) (text_fault t)) (trees_text_fault (suc i) ts)
+
+-- that a document nests deeper than 200 levels
+abbrev pub levels_fault : (within : Bool) → Option (Refusal TextFault)
+levels_fault within = if within then None else Some (here TooDeep)
+
+-- the first fault of a document; that of its levels comes last
+abbrev pub document_text_fault : Pairs → Option (Refusal TextFault)
+document_text_fault ps = or_else (pairs_text_fault ps) (levels_fault (nat_le (depth (document ps)) max_levels))

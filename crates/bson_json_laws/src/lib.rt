@@ -5,10 +5,14 @@ mod failure;
 mod form;
 mod json_fault;
 mod laws;
+mod levels;
 mod text_fault;
+mod wrapper;
 
 pub use failure::Failure;
 pub use form::JsonForm;
 pub use json_fault::JsonFault;
 pub use laws::law_text_back;
+pub use levels::is_within_levels;
 pub use text_fault::TextFault;
+pub use wrapper::wrapper_of;

@@ -11,6 +11,8 @@ pub enum TextFault {
     OddNan,
     /// A decimal whose bytes are not canonical: its text tells its value alone.
     OddDecimal,
+    /// Documents and arrays nest deeper than 200 levels.
+    TooDeep,
 }
 
 impl fmt::Display for TextFault {
@@ -24,6 +26,7 @@ impl fmt::Display for TextFault {
             TextFault::WrapperKey => "wrapper key",
             TextFault::OddNan => "NaN with other bytes",
             TextFault::OddDecimal => "decimal with other bytes",
+            TextFault::TooDeep => "nested deeper than 200 levels",
         })
     }
 }
