@@ -1,0 +1,5 @@
+"""`python3 -m tbson` is the command `tbson`."""
+
+from tbson.command import main
+
+main()
