@@ -133,7 +133,7 @@ class Source:
 
     def _reader_of(self) -> Union[BinaryIO, _Unzipped]:
         self._is_compressed = named = self.path.name.endswith(".gz")
-        compressed = is_compressed(self._front)
+        compressed = self._front.startswith(_GZIP) if named else is_compressed(self._front)
         if compressed and not named:
             raise InputRefused(f"{self.path}: is compressed by gzip; give it a name that ends in .gz")
         if named and not compressed:

@@ -8,7 +8,7 @@ from typing import Dict, List, Optional, Tuple
 from tbson.form import Enum, Form, Leaf, Mapping, Marked, Mode, Parts, Reference, Sequence, Struct, Table
 
 _PLACE = re.compile(r"\[\d+\]")
-_REST_OF_KEY = re.compile(r"[^.\[]*")
+_NEXT_KEY = re.compile(r".[^.\[]*", re.DOTALL)
 
 Definitions = Dict[str, Form]
 
@@ -34,10 +34,15 @@ def _is_step(rest: str, name: str) -> bool:
     return rest == name or (rest.startswith(name) and rest[len(name)] in ".[")
 
 
+def _next_key(rest: str) -> str:
+    """What is before the next step, and at least a character."""
+    return _NEXT_KEY.match(rest)[0]  # type: ignore[index]
+
+
 def _named(rest: str, fields: Dict[str, Optional[Form]]) -> Tuple[str, Optional[Form]]:
     """The key that the path goes on with: the longest name that it may be, or else what is before the next step."""
     names = [name for name in fields if _is_step(rest, name)]
-    name = max(names, key=len) if names else _REST_OF_KEY.match(rest)[0]  # type: ignore[index]
+    name = max(names, key=len) if names else _next_key(rest)
     return name, fields.get(name)
 
 
@@ -53,7 +58,7 @@ def _key(form: Optional[Form], rest: str) -> Tuple[str, str, Optional[Form]]:
     """A step to a key: how it is shown, the key itself, and the form behind it."""
     if isinstance(form, Mapping):
         is_last = isinstance(_bare(form.value, {})[0], Leaf)
-        key = rest if is_last else _REST_OF_KEY.match(rest)[0]  # type: ignore[index]
+        key = rest if is_last else _next_key(rest)
         return "*", key, form.value
     fields: Dict[str, Optional[Form]] = {}
     if isinstance(form, Struct):
@@ -79,5 +84,5 @@ def pattern(path: str, form: Optional[Form]) -> str:
             step = f".{step}" if steps else step
         steps.append(step)
         rest = rest[len(key) :]
-        rest = rest[1:] if rest.startswith(".") or not key else rest
+        rest = rest[1:] if rest.startswith(".") else rest
     return "".join(steps) or path
