@@ -2,4 +2,5 @@
 
 from tbson.command import main
 
-main()
+if __name__ == "__main__":
+    main()

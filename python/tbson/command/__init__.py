@@ -11,8 +11,10 @@ import click
 
 from tbson._version import __version__
 from tbson.command.check import check
+from tbson.command.infer import infer
 from tbson.command.merge import merge
 from tbson.command.migrate import migrate
+from tbson.command.profile import profile
 from tbson.command.texts import EXIT_STATUS, OVERVIEW
 
 _SETTINGS = {"help_option_names": ["-h", "--help"], "max_content_width": 110}
@@ -25,7 +27,7 @@ def tbson() -> None:
     """The command, which has others below it."""
 
 
-for command in (migrate, check, merge):
+for command in (profile, infer, migrate, check, merge):
     tbson.add_command(command)
 
 
