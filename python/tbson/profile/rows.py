@@ -3,6 +3,7 @@
 from __future__ import annotations
 
 import datetime
+import math
 from dataclasses import dataclass, field
 from typing import Any, Dict, Iterator, List, Optional, Tuple, Union
 
@@ -10,7 +11,7 @@ from tbson import elements as kinds
 from tbson.profile.maps import looks_like_map
 from tbson.profile.run import Profile
 from tbson.profile.tree import Field, Group, Slot
-from tbson.profile.values import number_of
+from tbson.profile.values import Number, number_of
 
 #: So many of the most frequent values are told.
 MOST_FREQUENT = 10
@@ -81,19 +82,24 @@ def _shown(kind: int, value: bytes) -> Shown:
     if kind == kinds.BINARY:
         return f"subtype {value[0]}"
     number = number_of(kind, value)
-    if number is None:
-        return value.decode(errors="replace")
-    return date_text(number) if kind == kinds.DATE else number
+    return value.decode(errors="replace") if number is None else _number(kind, number)
+
+
+def _number(kind: int, number: Number) -> Shown:
+    """A number: a date as a text, and one that JSON does not have by its name."""
+    if kind == kinds.DATE:
+        return date_text(number)
+    return number if math.isfinite(number) else {"inf": "Infinity", "-inf": "-Infinity"}.get(repr(number), "NaN")
 
 
 def _kind_row(slot: Slot) -> KindRow:
-    values, of_dates = slot.values, slot.kind == kinds.DATE
+    values = slot.values
     row = KindRow(kinds.NAMES[slot.kind], slot.count)
     if values.tabled:
         row.frequent = [(_shown(slot.kind, value), count) for value, count in values.frequent(MOST_FREQUENT)]
         row.distinct = values.distinct
     if values.least is not None and values.greatest is not None:
-        row.least, row.greatest = (date_text(values.least), date_text(values.greatest)) if of_dates else (values.least, values.greatest)
+        row.least, row.greatest = _number(slot.kind, values.least), _number(slot.kind, values.greatest)
     if values.shortest is not None:
         row.shortest, row.longest, row.mean_length = values.shortest, values.longest, round(values.total_length / values.measured, 1)
     return row
