@@ -100,7 +100,7 @@ BAD_INPUT = [
 ]
 
 
-@pytest.mark.parametrize("name, data, said", BAD_INPUT)
+@pytest.mark.parametrize("name, data, said", BAD_INPUT, ids=[f"{place}-{one[0]}" for place, one in enumerate(BAD_INPUT)])
 def test_bad_input_is_told_and_nothing_is_written(tmp_path, small_parts, name, data, said):
     (tmp_path / name).write_bytes(data)
     for call in (lambda: files.migrate_file("{n:i32}", tmp_path / name, tmp_path / "out.bson", rejects=tmp_path / "refused.bson"), lambda: files.check_file_at("{n:i32}", tmp_path / name)):

@@ -11,6 +11,7 @@ import click
 
 from tbson._version import __version__
 from tbson.command.check import check
+from tbson.command.common import INTERRUPTED, Interrupted
 from tbson.command.infer import infer
 from tbson.command.merge import merge
 from tbson.command.migrate import migrate
@@ -18,7 +19,7 @@ from tbson.command.profile import profile
 from tbson.command.texts import EXIT_STATUS, OVERVIEW
 
 _SETTINGS = {"help_option_names": ["-h", "--help"], "max_content_width": 110}
-_INTERRUPTED = 130
+_KILLED = 128
 
 
 @click.group(context_settings=_SETTINGS, help=OVERVIEW, epilog=EXIT_STATUS)
@@ -47,10 +48,10 @@ def main() -> None:
         error.show()
         status = error.exit_code
     except (click.Abort, KeyboardInterrupt):
-        click.echo("tbson: interrupted; nothing was written", err=True)
-        status = _INTERRUPTED
+        Interrupted().show()
+        status = INTERRUPTED
     except BrokenPipeError:
         # Whoever read the output has seen enough. Nothing more can be written, also not when Python ends.
         sys.stdout = None  # type: ignore[assignment]
-        status = _INTERRUPTED + signal.SIGPIPE - signal.SIGINT
+        status = _KILLED + signal.SIGPIPE
     sys.exit(status)

@@ -25,7 +25,7 @@ from tbson.summary import Row, Summary
 F = TypeVar("F", bound=Callable[..., Any])
 
 #: The exit statuses beside 0.
-SOME_REFUSED, FAILED = 1, 2
+SOME_REFUSED, FAILED, INTERRUPTED = 1, 2, 130
 _WIDE = 160
 _MOST_ROWS = 30
 
@@ -39,6 +39,15 @@ class Failed(click.ClickException):
         click.echo(f"tbson: {self.format_message()}", file=file or sys.stderr)
 
 
+class Interrupted(Failed):
+    """The run was interrupted, and took away what it had written."""
+
+    exit_code = INTERRUPTED
+
+    def __init__(self) -> None:
+        super().__init__("interrupted; nothing was written")
+
+
 def told(command: F) -> F:
     """Tells what cannot be done in a line, and ends with the status for it."""
 
@@ -48,6 +57,8 @@ def told(command: F) -> F:
             return command(*given, **named)
         except (InputRefused, OutputRefused, ShapeTextRefused, UnknownStatus) as error:
             raise Failed(printable(str(error), "\n\t")) from error
+        except KeyboardInterrupt:
+            raise Interrupted from None
         except MemoryError as error:
             raise Failed("memory ran out; nothing was written") from error
         except BrokenPipeError:
@@ -101,8 +112,11 @@ def console(to_errors: bool = False) -> Console:
 def progress_of(name: str, size: int) -> Iterator[Callable[[int], None]]:
     """Shows how much of so many bytes is done, with the rate, where somebody looks: on a terminal at standard error."""
     looked_at = console(to_errors=True)
+    if not looked_at.is_terminal:
+        yield lambda _: None
+        return
     columns = (TextColumn("{task.description}", markup=False), BarColumn(), DownloadColumn(), TransferSpeedColumn(), TimeRemainingColumn())
-    with Progress(*columns, console=looked_at, transient=True, disable=not looked_at.is_terminal) as shown:
+    with Progress(*columns, console=looked_at, transient=True) as shown:
         task = shown.add_task(printable(name), total=size)
         yield lambda done: shown.update(task, completed=done)
 

@@ -2,6 +2,7 @@
 
 from __future__ import annotations
 
+import sys
 from pathlib import Path
 from typing import Optional, Sequence, Tuple
 
@@ -48,7 +49,8 @@ def infer(files: Tuple[Path, ...], maps: bool, workers: Optional[int]) -> int:
     inferred = Inference(maps).whole(profile.whole)
     _check(Shape(notation_of_inferred(inferred)), files, profile, workers)
     for line in (*_head(files, profile), *lines_of(inferred)):
-        click.echo(line)
+        # Names are as they are where a file is written, so that it is the shape.
+        sys.stdout.write((printable(line) if sys.stdout.isatty() else line) + "\n")
     return SOME_REFUSED if profile.passed_over else 0
 
 

@@ -5,6 +5,7 @@ from __future__ import annotations
 import multiprocessing
 import signal
 from dataclasses import dataclass, field
+from multiprocessing import resource_tracker
 from multiprocessing.connection import Connection
 from pathlib import Path
 from typing import Any, Callable, Iterator, List, Optional, Sequence
@@ -107,7 +108,6 @@ def add_batch(profile: Profile, wanted: Wanted, batch: Batch) -> None:
 
 def _serve(wanted: Wanted, pipe: Connection) -> None:
     """What another process does: it adds the batches that come, up to None, and sends the profile back."""
-    signal.signal(signal.SIGINT, signal.SIG_IGN)
     try:
         profile = wanted.new()
         while True:
@@ -130,7 +130,13 @@ class _Process:
         context = multiprocessing.get_context("spawn")
         self._pipe, theirs = context.Pipe()
         self._process = context.Process(target=_serve, args=(wanted, theirs), daemon=True)
-        self._process.start()
+        # The process has the mask of this thread, so that Ctrl-C, which comes to all processes, is for this one alone. The tracker would take the mask away.
+        resource_tracker.ensure_running()
+        mask = signal.pthread_sigmask(signal.SIG_BLOCK, {signal.SIGINT})
+        try:
+            self._process.start()
+        finally:
+            signal.pthread_sigmask(signal.SIG_SETMASK, mask)
         theirs.close()
         self._under_way = 0
 
