@@ -41,7 +41,8 @@ def _silent(_: int) -> None:
     pass
 
 
-def _form(shape: Shape) -> Optional[Form]:
+def form_of_shape(shape: Shape) -> Optional[Form]:
+    """What the shape is made of, for the paths of a summary."""
     try:
         return form_of(shape.text)
     except Unexpected:
@@ -55,7 +56,7 @@ def _told(source: Source, progress: Progress) -> Iterator[Part]:
         progress(source.position)
 
 
-def _add_refused(outcome: Outcome, part: Part, refused: List[Refused], rejects: Optional[RejectsFile]) -> None:
+def add_refused(outcome: Outcome, part: Part, refused: List[Refused], rejects: Optional[RejectsFile]) -> None:
     """Adds what was refused of a part to the outcome, and to the files of rejects."""
     for one in refused:
         index, offset = part.index + (one.index or 0), part.offset + (one.offset or 0)
@@ -74,7 +75,7 @@ def _metadata(path: Path) -> List[Path]:
     return [path.with_name(f"{stem}.metadata.json"), path.with_name(f"{stem}.metadata.json.gz")]
 
 
-def _copy_metadata(path: Path, out: Path, outputs: Outputs) -> None:
+def copy_metadata(path: Path, out: Path, outputs: Outputs) -> None:
     """Writes a copy of the metadata beside the output, compressed as the output is."""
     found = next((place for place in _metadata(path) if place.exists()), None)
     target = _metadata(out)[out.name.endswith(".gz")]
@@ -105,7 +106,7 @@ def migrate_file(
     Raises InputRefused or OutputRefused, and then no file was written; ShapeRefused where the shape is none.
     """
     shape, path, out = shape if isinstance(shape, Shape) else Shape(shape), Path(path), Path(out)
-    compresses, outcome = out.name.endswith(".gz"), Outcome(0, Summary(_form(shape)))
+    compresses, outcome = out.name.endswith(".gz"), Outcome(0, Summary(form_of_shape(shape)))
 
     def work(part: Part) -> Tuple[Union[bytes, bytearray], List[Refused]]:
         output, refused = migrate(shape, part.data)
@@ -116,10 +117,10 @@ def migrate_file(
         outputs = stack.enter_context(Outputs(overwrite))
         file = outputs.open(out)
         rejects_file = RejectsFile(outputs, Path(rejects)) if rejects else None
-        _copy_metadata(path, out, outputs)
+        copy_metadata(path, out, outputs)
         for part, (output, refused) in in_order(work, _told(source, progress), workers):
             file.write(output)
-            _add_refused(outcome, part, refused, rejects_file)
+            add_refused(outcome, part, refused, rejects_file)
         if compresses and not outcome.documents > outcome.refused:
             file.write(gzip.compress(b""))
     return outcome
@@ -128,8 +129,8 @@ def migrate_file(
 def check_file_at(shape: ShapeLike, path: PathLike, *, workers: Optional[int] = None, progress: Progress = _silent) -> Outcome:
     """Checks whether each document of a file fits the shape; nothing is written. Raises InputRefused; ShapeRefused where the shape is none."""
     shape = shape if isinstance(shape, Shape) else Shape(shape)
-    outcome = Outcome(0, Summary(_form(shape)))
+    outcome = Outcome(0, Summary(form_of_shape(shape)))
     with Source(Path(path)) as source:
         for part, refused in in_order(lambda part: check_file(shape, part.data), _told(source, progress), workers):
-            _add_refused(outcome, part, refused, None)
+            add_refused(outcome, part, refused, None)
     return outcome
