@@ -65,6 +65,7 @@ def _declare(library: ctypes.CDLL) -> None:
     """Sets the types of the calls."""
     piece = [ctypes.c_void_p, ctypes.c_size_t]
     library.tbson_check_shape.argtypes, library.tbson_check_shape.restype = 2 * piece, Report
+    library.tbson_differences.argtypes, library.tbson_differences.restype = 3 * piece, Report
     library.tbson_recast.argtypes, library.tbson_recast.restype = 4 * piece, Report
     library.tbson_migrate_and_list.argtypes, library.tbson_migrate_and_list.restype = 5 * piece, MigrationReport
     library.tbson_next_document.argtypes, library.tbson_next_document.restype = piece + [ctypes.c_size_t], NextDocument

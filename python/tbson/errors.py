@@ -18,6 +18,9 @@ class Status(enum.IntEnum):
     END = 6
     BUFFER_TOO_SMALL = 7
     NO_MEMORY = 8
+    DIFFERENT = 9
+    OLD_REFUSED = 10
+    NEW_REFUSED = 11
 
 
 _FRONT = "error at "
@@ -54,7 +57,7 @@ class Refused(ValueError):
 
 
 class ShapeRefused(Refused):
-    """The shape is none: `place` counts the bytes of its UTF-8 up to where it is refused."""
+    """The shape is none: `place` counts the bytes of its UTF-8 up to where it is refused. Of two shapes the status tells which one is."""
 
 
 class ReadRefused(Refused):
@@ -75,6 +78,8 @@ class UnknownStatus(RuntimeError):
 
 _KINDS: Dict[int, Type[Refused]] = {
     Status.SHAPE_REFUSED: ShapeRefused,
+    Status.OLD_REFUSED: ShapeRefused,
+    Status.NEW_REFUSED: ShapeRefused,
     Status.READ_REFUSED: ReadRefused,
     Status.WRITE_REFUSED: WriteRefused,
     Status.BROKEN: Broken,
