@@ -4,14 +4,14 @@
     bson_infer < dump.bson | python3 tools/shape_lines.py > shape      # a line for each field, variant or part
     bson_migrate "$(python3 tools/shape_lines.py --join shape)" < dump.bson
 
-Lines may be indented in any way, and an empty line is left out; text in quotes stays as it is.
+Lines may be indented in any way, an empty line is left out, and so is a comment, from a `#` to the end of its line; text in quotes stays as it is.
 """
 import argparse
 import re
 import sys
 
-# A name or a text in quotes, in which a backslash stands before a quote or a backslash; the brace of a closed struct with its mark; else one character.
-TOKEN = re.compile(r'"(?:[^"\\]|\\.)*"|\{!|.', re.DOTALL)
+# A name or a text in quotes, in which a backslash stands before a quote or a backslash; a comment; the brace of a closed struct with its mark; else one character.
+TOKEN = re.compile(r'"(?:[^"\\]|\\.)*"|#[^\n]*|\{!|.', re.DOTALL)
 OPEN, CLOSE = ("{", "{!", "(", "<", "["), ("}", ")", ">", "]")
 
 
@@ -20,8 +20,8 @@ def tokens(text):
 
 
 def joined(text):
-    """The shape in one line: blanks are left out except for those in quotes."""
-    return "".join(token for token in tokens(text) if not token.isspace())
+    """The shape in one line: blanks and comments are left out except for those in quotes."""
+    return "".join(token for token in tokens(text) if not token.isspace() and not token.startswith("#"))
 
 
 def lines(shape):

@@ -1,15 +1,15 @@
 #!/usr/bin/env python3
 """Types the commands of the pages, and compares what they print with what the page says.
 
-    python3 tools/type_commands.py                      # README.md, the pages in docs/ and the man pages
+    python3 tools/type_commands.py                      # README.md, python/README.md, the pages in docs/ and the man pages
     python3 tools/type_commands.py README.md            # one page
     python3 tools/type_commands.py --programs FOLDER    # with the programs bson_recast, bson_migrate, bson_stream, bson_infer and bson_evolve of that folder
 
 Run at the top of the repository. It types each block of kind `console`, and in a man page each literal block: a line that begins with `$ ` is a command, `> `
 goes on with it, and what follows is its output, standard error included. Blocks of kind `sh` are not typed: they prove for an hour or ask for files that are
 not here. The commands run in a copy of the repository in a temporary folder, those of a page in one shell, each block from the top. The programs are those of
---programs, or else of the folders out/ of their crates, and then of the PATH, proved or not. From the first command whose program is not there the rest of the
-page is left out, except for blocks with `rt`, which build what they run.
+--programs, or else of the folders out/ of their crates, and then of the PATH, proved or not; `tbson` is that of the PATH. From the first command whose program is not
+there the rest of the page is left out, except for blocks with `rt`, which build what they run.
 
 It ends with status 1 where a command prints something else.
 """
@@ -25,8 +25,13 @@ import sys
 import tempfile
 
 MARK = "=== the end of a command ==="
+<<<<<<< ours
 PROGRAMS = ("bson_recast", "bson_migrate", "bson_stream", "bson_infer", "bson_evolve")
 NEEDED = (*PROGRAMS, "rt")
+=======
+PROGRAMS = ("bson_recast", "bson_migrate", "bson_infer", "bson_evolve")
+NEEDED = (*PROGRAMS, "rt", "tbson")
+>>>>>>> theirs
 PROMPT, MORE = "$ ", "> "
 
 
@@ -109,8 +114,13 @@ def differing(page, path, folder):
 
 def main():
     parser = argparse.ArgumentParser(description=__doc__, formatter_class=argparse.RawDescriptionHelpFormatter)
+<<<<<<< ours
     parser.add_argument("pages", nargs="*", default=["README.md", *sorted(glob.glob("docs/*.md") + glob.glob("docs/*.1"))])
     parser.add_argument("--programs", help="the folder of bson_recast, bson_migrate, bson_stream, bson_infer and bson_evolve")
+=======
+    parser.add_argument("pages", nargs="*", default=["README.md", "python/README.md", *sorted(glob.glob("docs/*.md") + glob.glob("docs/*.1"))])
+    parser.add_argument("--programs", help="the folder of bson_recast, bson_migrate, bson_infer and bson_evolve")
+>>>>>>> theirs
     options = parser.parse_args()
     sys.stdout.reconfigure(line_buffering=True)
     own = [options.programs] if options.programs else [f"crates/{name}/out" for name in PROGRAMS]

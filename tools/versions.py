@@ -20,7 +20,7 @@ PROJECT = [
 INTERFACE = [
     ("crates/bson_c/src/version.rt", r"^pub const VERSION: u32 = (\d+);$"),
     ("c/tbson.h", r"^#define TBSON_VERSION (\d+)$"),
-    ("c/tbson.py", r"^VERSION = (\d+)$"),
+    ("python/tbson/_library.py", r"^INTERFACE = (\d+)$"),
     ("docs/CHANGES.md", r"^C interface (\d+)\."),
 ]
 

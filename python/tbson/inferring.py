@@ -78,7 +78,7 @@ class Inference:
         made = self._value(others) if others else Inferred("unit")
         is_optional = missing > 0 or (nulls > 0 and made.opening not in ("bson", "unit"))
         if nulls and others:
-            made.comments.append(f"{nulls:,} are null")
+            made.comments.append(f"null in {nulls:,}")
         return made.around("?") if is_optional else made
 
     def _value(self, slots: List[Slot]) -> Inferred:
@@ -118,7 +118,7 @@ class Inference:
             there = sum(slot.count for slot in slots)
             made = self._of(slots, count - there)
             if there < count:
-                made.comments.insert(0, f"{count - there:,} of {count:,} lack it")
+                made.comments.insert(0, f"{count - there:,} of {count:,} {'lacks' if count - there == 1 else 'lack'} it")
             fields[inner.key.decode()] = made
         return Inferred("{", "}", fields, comments)
 

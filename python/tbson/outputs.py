@@ -6,7 +6,7 @@ import contextlib
 import os
 from pathlib import Path
 from types import TracebackType
-from typing import BinaryIO, List, Optional, Tuple, Type
+from typing import BinaryIO, Callable, List, Optional, Type, Union
 
 
 class OutputRefused(OSError):
@@ -16,8 +16,13 @@ class OutputRefused(OSError):
 class OutputFile:
     """A file that is written beside its place."""
 
-    def __init__(self, path: Path, replaces: bool):
+    def __init__(self, path: Path):
         self.path, self._beside = path, path.with_name(f".{path.name}.{os.getpid()}.tbson")
+        self._file: Optional[BinaryIO] = None
+
+    def create(self, replaces: bool) -> None:
+        """Creates the file. Raises OutputRefused where its place is taken, or cannot be written to."""
+        path = self.path
         if path.is_dir():
             raise OutputRefused(f"{path}: is a directory; give the name of a file")
         if os.path.lexists(path) and not replaces:
@@ -25,12 +30,14 @@ class OutputFile:
         if path.exists() and not path.is_file():
             raise OutputRefused(f"{path}: is no regular file")
         try:
-            self._file: BinaryIO = open(self._beside, "xb", buffering=0)
+            self._file = open(self._beside, "wb", buffering=0)
         except OSError as error:
             raise OutputRefused(f"{path}: {error.strerror}") from error
 
-    def write(self, data: "bytes | bytearray | memoryview") -> None:
+    def write(self, data: Union[bytes, bytearray, memoryview]) -> None:
         """Writes all of the data."""
+        if self._file is None:
+            raise ValueError("the file was not created")
         left = memoryview(data)
         try:
             while left:
@@ -41,20 +48,34 @@ class OutputFile:
     def finish(self) -> None:
         """Closes the file."""
         try:
-            self._file.close()
+            if self._file is not None:
+                self._file.close()
         except OSError as error:
             raise OutputRefused(f"{self.path}: {error.strerror}; nothing was written") from error
 
     def put(self) -> None:
-        """Puts the file in its place."""
-        os.replace(self._beside, self.path)
+        """Puts the file in its place, if that was not done."""
+        with contextlib.suppress(FileNotFoundError):
+            os.replace(self._beside, self.path)
 
     def drop(self) -> None:
-        """Takes the file away."""
+        """Takes the file away, if it is there."""
         with contextlib.suppress(OSError):
-            self._file.close()
+            if self._file is not None:
+                self._file.close()
         with contextlib.suppress(FileNotFoundError):
             self._beside.unlink()
+
+
+def _for_each(files: List[OutputFile], do: Callable[[OutputFile], None]) -> None:
+    """Does it for each of the files, once more where an interrupt came meanwhile: what is begun here is done to the end."""
+    left = list(files)
+    while left:
+        try:
+            do(left[-1])
+            left.pop()
+        except KeyboardInterrupt:
+            continue
 
 
 class Outputs:
@@ -66,23 +87,19 @@ class Outputs:
 
     def open(self, path: Path) -> OutputFile:
         """A new file. Raises OutputRefused where its place is taken, or cannot be written to."""
-        file = OutputFile(path, self._replaces)
+        file = OutputFile(path)
         self._files.append(file)
+        file.create(self._replaces)
         return file
 
     def __enter__(self) -> "Outputs":
         return self
 
     def __exit__(self, kind: Optional[Type[BaseException]], error: Optional[BaseException], trace: Optional[TracebackType]) -> None:
-        done: Tuple[OutputFile, ...] = ()
         try:
             if kind is None:
                 for file in self._files:
                     file.finish()
-                for file in self._files:
-                    file.put()
-                done = tuple(self._files)
+                _for_each(self._files, OutputFile.put)
         finally:
-            for file in self._files:
-                if file not in done:
-                    file.drop()
+            _for_each(self._files, OutputFile.drop)

@@ -68,7 +68,7 @@ def end(chance: random.Random) -> bytes:
     """The fields behind the items, but for the total and the version."""
     stock = inner("stock", *(int32(name, chance.randrange(50)) for name in chance.sample(WAREHOUSES, 3)))
     coupon = [text("coupon", f"SAVE{chance.randrange(5, 50)}")] if chance.random() < 0.1 else []
-    note = [null("note")] if chance.random() < 0.05 else [text("note", words(chance, chance.randrange(8, 44)))] if chance.random() < 0.8 else []
+    note = [null("note")] if chance.random() < 0.05 else [text("note", words(chance, chance.randrange(8, 54)))] if chance.random() < 0.8 else []
     return b"".join([stock, boolean("paid", chance.random() < 0.9), *coupon, *note])
 
 

@@ -63,7 +63,7 @@ def test_a_migration(folder):
     ran = tbson_command("migrate", SHAPE, "people.bson", "typed.bson", "--rejects", "refused.bson")
     assert (ran.returncode, ran.stderr) == (1, "")
     assert "98 of 100 documents written to typed.bson; 2 refused" in ran.stdout
-    assert re.search(r"^ *2 +age +invalid type: String +document 7 *$", ran.stdout, re.MULTILINE)
+    assert re.search(r"^ *2 +age +invalid type: String +document 7$", ran.stdout, re.MULTILINE)
     whole = Path("people.bson").read_bytes()
     assert Path("typed.bson").read_bytes() == tbson.migrate(SHAPE, whole).output
     assert Path("refused.bson").read_bytes() == people()[7] + people()[50]
@@ -82,7 +82,7 @@ def test_a_migration_of_all(folder):
 def test_paths_of_arrays_are_one(folder):
     Path("people.bson").write_bytes(b"".join(person(n, tags=[int32(str(i), i) for i in range(n)] + [int64(str(n), 1 << 40)]) for n in range(5)))
     ran = tbson_command("check", SHAPE, "people.bson")
-    assert ran.returncode == 1 and re.search(r"^ *5 +tags\[\*\] +integer out of range +document 0: integer 1099511627776 out of range *$", ran.stdout, re.MULTILINE)
+    assert ran.returncode == 1 and re.search(r"^ *5 +tags\[\*\] +integer out of range +document 0: integer 1099511627776 out of range$", ran.stdout, re.MULTILINE)
 
 
 def test_a_shape_in_a_file(folder):
@@ -196,7 +196,7 @@ def test_an_interrupted_run_leaves_no_file(folder, words, number):
     time.sleep(0.0 if words[0] == "migrate" else 0.7)
     os.killpg(started.pid, number) if number == signal.SIGINT else started.send_signal(number)
     printed, errors = started.communicate(timeout=60)
-    assert (started.returncode, printed, errors) == (130, "", "tbson: interrupted; nothing was written\n")
+    assert (started.returncode, printed, errors) == (130, "", "tbson: interrupted\n")
     assert files() == before
 
 

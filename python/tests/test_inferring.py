@@ -82,11 +82,11 @@ def test_lines_and_comments():
     profile, found = inferred(*pieces)
     assert lines_of(found) == [
         "{",
-        "  n: ?i64,  # 1 of 3 lack it; 1 int32, 1 int64",
+        "  n: ?i64,  # 1 of 3 lacks it; 1 int32, 1 int64",
         "  a: {",
-        "    t: ?string  # 1 of 3 lack it",
+        "    t: ?string  # 1 of 3 lacks it",
         "  },",
-        "  z: bson  # 1 int32, 1 string; 1 are null",
+        "  z: bson  # 1 int32, 1 string; null in 1",
         "}",
     ]
     assert joined("\n".join(lines_of(found))).notation == notation_of_inferred(found)
@@ -97,7 +97,7 @@ def test_maps():
     assert shape(*pieces, maps=True) == "{m:[string:?i32]}"
     assert shape(*pieces).startswith("{m:{key0:?i32,key1:?i32,")
     assert lines_of(inferred(*pieces)[1])[1] == "  m: {  # looks like a map of 26 keys: see --maps"
-    assert lines_of(inferred(*pieces, maps=True)[1])[1] == "  m: [string:?i32]  # a map of 26 keys, such as key0, key1, key2; 50 are null"
+    assert lines_of(inferred(*pieces, maps=True)[1])[1] == "  m: [string:?i32]  # a map of 26 keys, such as key0, key1, key2; null in 50"
     for maps in (False, True):
         assert tbson.check_file(shape(*pieces, maps=maps), b"".join(pieces)) == []
 

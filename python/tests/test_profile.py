@@ -217,9 +217,9 @@ def test_no_field_tells_variants_apart_where_no_other_depends_on_it():
 def test_words():
     assert [share_text(*shares) for shares in [(0, 10), (1, 100000), (1, 12), (9999, 10000), (1, 2), (3, 3)]] == ["0.0 %", "< 0.1 %", "8.3 %", "99.9 %", "50 %", "100 %"]
     rows = rows_by_path(profiled(*(document(text("t", "a" if n % 4 else "b"), int32("n", n), int32("one", 1)) for n in range(1000)), document(text("t", ""), null("n"))))
-    assert values_text(rows["t"]) == "a 75 %, b 25 %, and 1 more"
+    assert values_text(rows["t"]) == "a (75 %), b (25 %), and 1 more"
     assert values_text(rows["n"]) == "0 .. 999"
-    assert values_text(rows["one"]) == "1 100 %"
+    assert values_text(rows["one"]) == "1 (100 %)"
 
 
 def test_the_page_stands_alone_and_holds_no_markup_of_values():

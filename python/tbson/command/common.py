@@ -45,7 +45,7 @@ class Interrupted(Failed):
     exit_code = INTERRUPTED
 
     def __init__(self) -> None:
-        super().__init__("interrupted; nothing was written")
+        super().__init__("interrupted")
 
 
 def told(command: F) -> F:
@@ -108,6 +108,14 @@ def console(to_errors: bool = False) -> Console:
     return Console(stderr=to_errors, width=None if stream.isatty() else _WIDE, highlight=False, soft_wrap=False)
 
 
+def show_table(table: Table) -> None:
+    """Prints the table, without blanks at the ends of its lines."""
+    shown = console()
+    with shown.capture() as captured:
+        shown.print(table)
+    click.echo("\n".join(line.rstrip() for line in captured.get().rstrip("\n").split("\n")))
+
+
 @contextmanager
 def progress_of(name: str, size: int) -> Iterator[Callable[[int], None]]:
     """Shows how much of so many bytes is done, with the rate, where somebody looks: on a terminal at standard error."""
@@ -145,7 +153,7 @@ def show_refused(summary: Summary) -> None:
     rows = summary.rows()
     for row in rows[:_MOST_ROWS]:
         table.add_row(f"{row.count:,}", *(Text(printable(part)) for part in (row.path, row.cause, _first(row))))
-    console().print(table)
+    show_table(table)
     left = summary.others + sum(row.count for row in rows[_MOST_ROWS:])
     if left:
         click.echo(f"and {counted(left)} at other paths, or for other causes")

@@ -10,7 +10,7 @@ import click
 from rich.table import Table
 from rich.text import Text
 
-from tbson.command.common import console, counted, overwrite_option, printable, progress_of, told, workers_option
+from tbson.command.common import counted, overwrite_option, printable, progress_of, show_table, told, workers_option
 from tbson.command.texts import EXIT_STATUS
 from tbson.inputs import size_of
 from tbson.outputs import Outputs
@@ -71,7 +71,7 @@ def _show(found: Profile, rows: List[PathRow], names: List[str]) -> None:
         table.add_column(title, justify="right" if right else "left", overflow="fold")
     for row in rows[1:]:
         table.add_row(*map(Text, map(printable, _cells(row, found.whole.count))))
-    console().print(table)
+    show_table(table)
     for row in rows:
         for line in variants_lines(row):
             click.echo(printable(line))

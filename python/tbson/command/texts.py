@@ -21,7 +21,7 @@ Exit status:
 0    all was done
 1    some documents do not fit, or something that was looked for is missing
 2    nothing was done: a line on standard error says why
-130  it was interrupted; nothing was written
+130  it was interrupted, and left no file half-written
 """
 
 SHAPES = """\b

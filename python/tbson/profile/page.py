@@ -67,8 +67,9 @@ def _head(profile: Profile, files: List[str]) -> Iterator[str]:
     yield f"<h1>{names}</h1><p>{profile.documents:,} documents, {profile.size:,} bytes</p>"
     if profile.passed_over:
         told = "\n".join(f"{wrong.file}: document {wrong.index:,}: {wrong.text}" for wrong in profile.told)
-        yield f"<p>{profile.passed_over:,} of them are damaged, and are not counted below. The first:</p><pre>{escape(told)}</pre>"
-    yield '<p class="key">Of the documents around it a field has a value in<span class="there"></span>, is null in<span class="null"></span>, and is missing in the rest.</p>'
+        count = "1 damaged document is" if profile.passed_over == 1 else f"{profile.passed_over:,} damaged documents are"
+        yield f"<p>{count} not counted below; the first:</p><pre>{escape(told)}</pre>"
+    yield '<p class="key">Of the documents around a field:<span class="there"></span>it has a value<span class="null"></span>it is null; in the rest it is missing.</p>'
 
 
 def page_of(profile: Profile, rows: List[PathRow], files: List[str]) -> str:

@@ -36,10 +36,11 @@ def _range(row: KindRow) -> Optional[str]:
 
 
 def _lengths(row: KindRow) -> Optional[str]:
-    unit = {"array": "items", "document": "fields", "string": "bytes", "binary": "bytes"}.get(row.kind)
+    unit = {"array": "item", "document": "field", "string": "byte", "binary": "byte"}.get(row.kind)
     if row.shortest is None or unit is None:
         return None
-    return f"{row.shortest:,} {unit}" if row.shortest == row.longest else f"{row.shortest:,} to {row.longest:,} {unit}"
+    units = unit if row.longest == 1 else f"{unit}s"
+    return f"{row.shortest:,} {units}" if row.shortest == row.longest else f"{row.shortest:,} to {row.longest:,} {units}"
 
 
 def _frequent(row: KindRow) -> Optional[str]:
@@ -48,7 +49,7 @@ def _frequent(row: KindRow) -> Optional[str]:
     if not told:
         return None
     rest = "" if row.distinct is None or row.distinct <= len(told) else f", and {row.distinct - len(told):,} more"
-    return ", ".join(f"{value_text(value)} {share_text(count, row.count)}" for value, count in told) + rest
+    return ", ".join(f"{value_text(value)} ({share_text(count, row.count)})" for value, count in told) + rest
 
 
 def values_text(row: PathRow) -> str:
