@@ -8,6 +8,7 @@ pub mod JsonWrappers
 pub mod ReadBack
 pub mod Refusals
 pub mod RelaxedBack
+pub mod SoundTexts
 pub mod TextBack
 pub mod Textual
 pub mod Visible

@@ -18,7 +18,7 @@ use Rattle.bson_json_laws.specs.Doubles.{float_in}
 use Rattle.bson_json_laws.specs.JsonOf.{IsRelaxedDouble, integer_json, IsDate, IsJson, AreMembers, AreItems}
 use Rattle.bson_json_laws.specs.JsonText.{IsText}
 use Rattle.bson_json_laws.specs.Read.{read}
-use Rattle.bson_json_laws.specs.ReadText.{json_of_text, only_document, document_of_text}
+use Rattle.bson_json_laws.specs.ReadText.{json_of_text, only_document, document_of_json, document_of_text}
 use Rattle.bson_json_laws.specs.Held.{IsHeld, ArePairsHeld, AreTreesHeld}
 use Rattle.bson_json_laws.specs.Relaxed.{relaxed_pairs}
 use Rattle.bson_json_laws.specs.TextFault.{pairs_text_fault, levels_fault, document_text_fault}
@@ -175,7 +175,7 @@ within_levels ps small = rw (le-leb (depth (document ps)) 200 small) refl
 
 read_as : (ps qs : Pairs) (text : Utf8) (j : Json) → json_of_text text ≡ Some j → read j ≡ Ok (document qs) → depth (document qs) ≤ 200 → document_of_text text ≡ Ok qs
 read_as ps qs text j e r small =
-    ap (λ o. (or_refused not_json o >>= read) >>= only_document) e ∙ ap (λ (a : Reading Tree). a >>= only_document) r ∙ within_levels qs small
+    ap (λ o. or_refused not_json o >>= document_of_json) e ∙ ap (λ (a : Reading Tree). a >>= only_document) r ∙ within_levels qs small
 
 -- the canonical text of a document is read as it again
 pub text_back : (ps : Pairs) (text : Utf8) → ArePairsHeld ps → document_text_fault ps ≡ None → IsText Canonical (document ps) text → document_of_text text ≡ Ok ps

@@ -5,6 +5,7 @@ pub mod Held
 pub mod JsonOf
 pub mod JsonText
 pub mod Lines
+pub mod Ordinary
 pub mod Printed
 pub mod Read
 pub mod ReadText

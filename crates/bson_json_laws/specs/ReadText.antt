@@ -18,15 +18,14 @@ most_nesting = 403
 abbrev pub json_of_text : Utf8 → Option Json
 json_of_text text = option_and_then (λ p. if_last p.0 p.1) (value most_nesting (tokens text))
 
--- the BSON value that a text stands for
-abbrev pub tree_of_text : Utf8 → Reading Tree
-tree_of_text text = or_refused not_json (json_of_text text) >>= read
-
 -- a document of at most 200 levels
 abbrev pub only_document : Tree → Reading Pairs
 only_document (document ps) = if nat_le (depth (document ps)) max_levels then Ok ps else Err (here too_deep)
 only_document t = Err (here no_document)
 
--- the document that a text stands for
+-- the document that a JSON value stands for, and a text
+abbrev pub document_of_json : Json → Reading Pairs
+document_of_json j = read j >>= only_document
+
 abbrev pub document_of_text : Utf8 → Reading Pairs
-document_of_text text = tree_of_text text >>= only_document
+document_of_text text = or_refused not_json (json_of_text text) >>= document_of_json

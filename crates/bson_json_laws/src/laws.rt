@@ -2,10 +2,11 @@
 ghost use Rattle.std.specs.Prelude.{◌≡◌, ◌≤◌, Some, None, Ok};
 ghost use Rattle.json.specs.Json.{Json};
 ghost use Rattle.bson_kinds.specs.Text.{Utf8};
-ghost use Rattle.bson_base.specs.Sound.{max_levels};
+ghost use Rattle.bson_base.specs.Sound.{IsSound, max_levels};
 ghost use Rattle.bson_base.specs.Tree.{Tree, document, Pairs, depth};
 ghost use Rattle.bson_json_laws.specs.Held.{IsHeld, ArePairsHeld};
 ghost use Rattle.bson_json_laws.specs.JsonText.{IsText};
+ghost use Rattle.bson_json_laws.specs.Ordinary.{ArePairsOrdinary};
 ghost use Rattle.bson_json_laws.specs.ReadText.{json_of_text, document_of_text};
 ghost use Rattle.bson_json_laws.specs.Relaxed.{relaxed_pairs};
 ghost use Rattle.bson_json_laws.specs.TextFault.{document_text_fault};
@@ -26,4 +27,11 @@ pub fn law_text_back()
     ensures one_text { (ps qs : Pairs) (text : Utf8) → ArePairsHeld ps → ArePairsHeld qs → document_text_fault ps ≡ None → document_text_fault qs ≡ None
         → IsText Canonical (document ps) text → IsText Canonical (document qs) text → ps ≡ qs }
     ensures relaxed { (ps : Pairs) (text : Utf8) → ArePairsHeld ps → document_text_fault ps ≡ None → IsText Relaxed (document ps) text → document_of_text text ≡ Ok (relaxed_pairs ps) }
+{}
+
+/// A document that is sound has a canonical text that is read back, where each NaN in it has the bytes `00 00 00 00 00 00 f8 7f`, each decimal is canonical and the options of each regular
+/// expression are in order: it has no fault of [`TextFault`](crate::TextFault), and meets the premises of [`law_text_back`]. The call does nothing.
+pub fn law_sound_text()
+    ensures held { (ps : Pairs) → IsSound (document ps) → ArePairsOrdinary ps → ArePairsHeld ps }
+    ensures passes { (ps : Pairs) → IsSound (document ps) → ArePairsOrdinary ps → document_text_fault ps ≡ None }
 {}

@@ -12,7 +12,7 @@ mod wrapper;
 pub use failure::Failure;
 pub use form::JsonForm;
 pub use json_fault::JsonFault;
-pub use laws::law_text_back;
+pub use laws::{law_sound_text, law_text_back};
 pub use levels::is_within_levels;
 pub use text_fault::TextFault;
 pub use wrapper::wrapper_of;

@@ -7,6 +7,7 @@ mod due;
 mod job;
 mod next;
 mod streaming;
+mod taking;
 mod waits;
 
 pub use closing::Ending;

@@ -3,10 +3,11 @@ ghost use Rattle.std.specs.Prelude.{◌≡◌, ◌≢◌, ◌≤◌, IfOk};
 ghost use Rattle.bson_io.specs.Ends.{Rose, Takes};
 ghost use Rattle.bson_streaming.specs.Next.{IsNextPiece};
 
+use crate::taking::take_up_to;
 use bson_io::Source;
 use bson_kinds::ElementType;
 use bson_rawdoc::extent::extent;
-use bson_source::{TakeFault, take_up_to};
+use bson_source::TakeFault;
 
 /// What a source has next, of a file that has documents one behind another.
 #[derive(Clone, Copy, Debug, PartialEq, Eq)]
