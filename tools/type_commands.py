@@ -25,13 +25,8 @@ import sys
 import tempfile
 
 MARK = "=== the end of a command ==="
-<<<<<<< ours
 PROGRAMS = ("bson_recast", "bson_migrate", "bson_stream", "bson_infer", "bson_evolve")
-NEEDED = (*PROGRAMS, "rt")
-=======
-PROGRAMS = ("bson_recast", "bson_migrate", "bson_infer", "bson_evolve")
 NEEDED = (*PROGRAMS, "rt", "tbson")
->>>>>>> theirs
 PROMPT, MORE = "$ ", "> "
 
 
@@ -114,13 +109,8 @@ def differing(page, path, folder):
 
 def main():
     parser = argparse.ArgumentParser(description=__doc__, formatter_class=argparse.RawDescriptionHelpFormatter)
-<<<<<<< ours
-    parser.add_argument("pages", nargs="*", default=["README.md", *sorted(glob.glob("docs/*.md") + glob.glob("docs/*.1"))])
-    parser.add_argument("--programs", help="the folder of bson_recast, bson_migrate, bson_stream, bson_infer and bson_evolve")
-=======
     parser.add_argument("pages", nargs="*", default=["README.md", "python/README.md", *sorted(glob.glob("docs/*.md") + glob.glob("docs/*.1"))])
-    parser.add_argument("--programs", help="the folder of bson_recast, bson_migrate, bson_infer and bson_evolve")
->>>>>>> theirs
+    parser.add_argument("--programs", help="the folder of bson_recast, bson_migrate, bson_stream, bson_infer and bson_evolve")
     options = parser.parse_args()
     sys.stdout.reconfigure(line_buffering=True)
     own = [options.programs] if options.programs else [f"crates/{name}/out" for name in PROGRAMS]
