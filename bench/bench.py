@@ -16,6 +16,7 @@ from elements import array, binary, document, element, int32, string, text
 HERE = pathlib.Path(__file__).resolve().parent
 RECAST = HERE.parent / "crates/bson_recast/out/bson_recast"
 MIGRATE = HERE.parent / "crates/bson_migrate/out/bson_migrate"
+STREAM = HERE.parent / "crates/bson_stream/out/bson_stream"
 INFER = HERE.parent / "crates/bson_infer/out/bson_infer"
 SMALLEST = b"\x05\0\0\0\0"
 
@@ -329,6 +330,7 @@ def main():
     parser = argparse.ArgumentParser(description=__doc__, formatter_class=argparse.RawDescriptionHelpFormatter)
     parser.add_argument("--program", default=str(RECAST), help="the built bson_recast")
     parser.add_argument("--migrate", default=str(MIGRATE), help="the built bson_migrate, which takes the files of documents")
+    parser.add_argument("--stream", default=str(STREAM), help="the built bson_stream, which takes the same files")
     parser.add_argument("--infer", default=str(INFER), help="the built bson_infer")
     parser.add_argument("--only", help="one workload")
     parser.add_argument("--make", nargs=2, metavar=("NAME", "FILE"), help="write the input of a workload to FILE, its shape to FILE.shape")
@@ -354,6 +356,9 @@ def main():
                 measure(name, [options.infer], path, [options.infer], nothing)
                 continue
             ours = measure(name, [program, shape], path, [program, "{}"], least)
+            if name == "file" and os.path.exists(options.stream):
+                stream = measure("file, as a stream", [options.stream, shape], path, [options.stream, "{}"], least)
+                print(f"{'file, as a stream':28} {stream / ours:.2f} of the instructions of bson_migrate")
             if other is not None and name in ("rows", "extended", "file"):
                 theirs = measure(f"{name}, over libbson", [str(other), name], path, [str(other), name], least)
                 print(f"{name:28} {ours / theirs:.2f} of the instructions of the program over libbson")

@@ -1,14 +1,15 @@
 /*
  * tbson.h: typed BSON for C.
  *
- * Documents are read at a shape and written anew. A shape is a text such as {name:string,age:i64}, which says what type each value has;
- * docs/SHAPES.md of the repository has the whole notation.
+ * Documents are read at a shape and written anew, and shapes are compared. A shape is a text such as {name:string,age:i64}, which says what type each
+ * value has; docs/SHAPES.md of the repository has the whole notation.
  *
  * Buffers. No memory passes between the library and its caller. What a call returns besides its report is written to buffers of the caller:
  *
  * - The output buffer gets all of the output, or nothing. The bytes after the output stay as they were.
  * - The text buffer gets as many first bytes of the text as fit, and the bytes after them stay as they were. The text is UTF-8 with no zero
- *   byte at its end; one that is cut may end inside a character. Names of fields are in it as they are, line breaks and zeros included.
+ *   byte at its end, except for that of tbson_differences; one that is cut may end inside a character. Names of fields are in it as they are, line
+ *   breaks and zeros included.
  * - The array of tbson_migrate_and_list gets as many first records as fit, and the places after them stay as they were.
  *
  * Requirements for the caller. Each pointer with its length names so many bytes that may be read, and for a buffer written; `refusals` with its
@@ -64,7 +65,13 @@ enum tbson_status {
     TBSON_BUFFER_TOO_SMALL = 7,
     /* Memory ran out. Any call but tbson_next_document and tbson_version may return it at any time. The buffers and the array
      * are as they were. */
-    TBSON_NO_MEMORY = 8
+    TBSON_NO_MEMORY = 8,
+    /* The shapes are not compatible, as the text tells. */
+    TBSON_DIFFERENT = 9,
+    /* The bytes of the old of two shapes are no shape, or one that is not plain: the text tells why, and of bytes that are no shape the place where. */
+    TBSON_OLD_REFUSED = 10,
+    /* The same of the new shape. */
+    TBSON_NEW_REFUSED = 11
 };
 
 /*
@@ -91,6 +98,12 @@ static inline const char *tbson_status_name(uint32_t status)
         return "TBSON_BUFFER_TOO_SMALL";
     case TBSON_NO_MEMORY:
         return "TBSON_NO_MEMORY";
+    case TBSON_DIFFERENT:
+        return "TBSON_DIFFERENT";
+    case TBSON_OLD_REFUSED:
+        return "TBSON_OLD_REFUSED";
+    case TBSON_NEW_REFUSED:
+        return "TBSON_NEW_REFUSED";
     default:
         return "unknown status";
     }
@@ -100,7 +113,8 @@ static inline const char *tbson_status_name(uint32_t status)
 typedef struct tbson_report {
     /* One of enum tbson_status. */
     uint32_t status;
-    /* At TBSON_SHAPE_REFUSED the place in the shape, at TBSON_BROKEN that in the file: a number of bytes from the start. */
+    /* At TBSON_SHAPE_REFUSED, TBSON_OLD_REFUSED and TBSON_NEW_REFUSED the place in that shape, at TBSON_BROKEN that in the file: a number of bytes from
+     * the start. */
     size_t place;
     /* How many bytes were written to the output buffer: 0, or as many as are needed. */
     size_t written;
@@ -126,6 +140,26 @@ uint32_t tbson_version(void);
  * TBSON_NO_MEMORY
  */
 tbson_report tbson_check_shape(const uint8_t *shape, size_t shape_len, uint8_t *text, size_t text_len);
+
+/*
+ * Tells why documents that are written at an old shape need not be read at a new one.
+ *
+ * TBSON_DONE         The shapes are compatible: each document that is written at the old one is read at the new one, if it is sound (it keeps the limits,
+ *                    and no key in it begins with a dollar sign or is there twice in one document). This is the `yes` of the program bson_evolve.
+ * TBSON_DIFFERENT    They are not: the table of docs/DEFINITIONS.md does not vouch for some pairs of parts, and documents may be read all the same. The
+ *                    text tells all of these pairs, each by four texts with a zero byte behind each: the path to the parts, the notation of the old one,
+ *                    that of the new one, and the reason, such as "a", "i64", "i32" and "the new type lacks numbers of the old one". The first path is
+ *                    that of the `no at` of bson_evolve. It is "." for the shapes themselves: there the reason tells what does not pass, such as "the new
+ *                    field b is no option, and the old struct lacks it". A pair of structs or enums has a difference for each such name, and their common
+ *                    parts are compared all the same. A pair of equal parts is told once: where two fields go from i64 to i32, the first of them. No name
+ *                    of a plain shape holds a zero byte, except that of a definition.
+ * TBSON_OLD_REFUSED  The bytes of the old shape are no shape, as of tbson_check_shape by place and text; or both are shapes, and the old one is not
+ *                    plain: then the place is 0, and the text is "the old shape is not plain". docs/bson_evolve.1 says which shapes are plain.
+ * TBSON_NEW_REFUSED  The same of the new shape.
+ * TBSON_NO_MEMORY
+ */
+tbson_report tbson_differences(const uint8_t *old_shape, size_t old_shape_len, const uint8_t *new_shape, size_t new_shape_len, uint8_t *text,
+                               size_t text_len);
 
 /*
  * Recasts one document: reads its bytes at the shape, and writes what was read as the bytes of a document.

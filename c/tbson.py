@@ -26,6 +26,9 @@ class Status(enum.IntEnum):
     END = 6
     BUFFER_TOO_SMALL = 7
     NO_MEMORY = 8
+    DIFFERENT = 9
+    OLD_REFUSED = 10
+    NEW_REFUSED = 11
 
 
 class Refused(ValueError):
@@ -52,7 +55,7 @@ class Refused(ValueError):
 
 
 class ShapeRefused(Refused):
-    """The shape is none: `place` counts the bytes of its UTF-8 up to where it is refused."""
+    """The shape is none: `place` counts the bytes of its UTF-8 up to where it is refused. Of two shapes the status tells which is refused."""
 
 
 class ReadRefused(Refused):
@@ -72,6 +75,15 @@ class Migration(NamedTuple):
 
     output: bytearray
     refused: List[Refused]
+
+
+class Difference(NamedTuple):
+    """A pair of parts of an old shape and a new one that does not pass: the path to both, their notations, and the reason."""
+
+    path: str
+    old: str
+    new: str
+    reason: str
 
 
 def _path_and_cause(text: str) -> Tuple[Optional[str], str]:
@@ -167,6 +179,7 @@ def _load() -> ctypes.CDLL:
     if library.tbson_version() < VERSION:
         raise ImportError(f"tbson: {path} has version {library.tbson_version()}, and tbson.py needs {VERSION}. {remedy}")
     library.tbson_check_shape.argtypes, library.tbson_check_shape.restype = 2 * _SLICE, _Report
+    library.tbson_differences.argtypes, library.tbson_differences.restype = 3 * _SLICE, _Report
     library.tbson_recast.argtypes, library.tbson_recast.restype = 4 * _SLICE, _Report
     library.tbson_migrate_and_list.argtypes, library.tbson_migrate_and_list.restype = 5 * _SLICE, _MigrationReport
     library.tbson_next_document.argtypes, library.tbson_next_document.restype = _SLICE + [ctypes.c_size_t], _Document
@@ -175,7 +188,14 @@ def _load() -> ctypes.CDLL:
 
 _library = _load()
 
-_KINDS = {Status.SHAPE_REFUSED: ShapeRefused, Status.READ_REFUSED: ReadRefused, Status.WRITE_REFUSED: WriteRefused, Status.BROKEN: Broken}
+_KINDS = {
+    Status.SHAPE_REFUSED: ShapeRefused,
+    Status.OLD_REFUSED: ShapeRefused,
+    Status.NEW_REFUSED: ShapeRefused,
+    Status.READ_REFUSED: ReadRefused,
+    Status.WRITE_REFUSED: WriteRefused,
+    Status.BROKEN: Broken,
+}
 
 
 def _shape_bytes(shape: Union[str, bytes]) -> bytes:
@@ -240,6 +260,28 @@ def check_shape(shape: Union[str, bytes]) -> None:
         report = _library.tbson_check_shape(*shape_pair, *text_pair)
     if report.status != Status.DONE:
         raise _failure(report, text[: report.text_written].decode())
+
+
+def differences(old: Union[str, bytes], new: Union[str, bytes]) -> List[Difference]:
+    """Why documents that are written at an old shape need not be read at a new one; an empty list where the shapes are compatible.
+
+    The first path is that of the `no at` of bson_evolve, "." for the shapes themselves. A pair of equal parts is told once: where two fields go from i64 to
+    i32, the first of them. Raises ShapeRefused where one is no shape, or not plain.
+    """
+    with _Bytes(_shape_bytes(old)) as old_pair, _Bytes(_shape_bytes(new)) as new_pair:
+        text_len = 4096
+        while True:
+            text = _buffer(text_len)
+            with _Bytes(text) as text_pair:
+                report = _library.tbson_differences(*old_pair, *new_pair, *text_pair)
+            if report.text_needed <= text_len:
+                break
+            text_len = report.text_needed
+    said = text[: report.text_written].decode()
+    if report.status not in (Status.DONE, Status.DIFFERENT):
+        raise _failure(report, said)
+    texts = said.split("\0")
+    return [Difference(*texts[n : n + 4]) for n in range(0, len(texts) - 1, 4)]
 
 
 def check(shape: Union[str, bytes], document: Any) -> int:

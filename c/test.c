@@ -60,7 +60,8 @@ static int is(tbson_report a, uint32_t status, size_t place, size_t written, siz
 static void test_status_names(void)
 {
     static const char *const names[] = {"TBSON_DONE", "TBSON_SOME_REFUSED", "TBSON_SHAPE_REFUSED", "TBSON_READ_REFUSED", "TBSON_WRITE_REFUSED",
-                                        "TBSON_BROKEN", "TBSON_END", "TBSON_BUFFER_TOO_SMALL", "TBSON_NO_MEMORY"};
+                                        "TBSON_BROKEN", "TBSON_END", "TBSON_BUFFER_TOO_SMALL", "TBSON_NO_MEMORY", "TBSON_DIFFERENT",
+                                        "TBSON_OLD_REFUSED", "TBSON_NEW_REFUSED"};
     uint32_t status;
 
     for (status = 0; status < sizeof names / sizeof *names; status++) {
@@ -95,6 +96,29 @@ static void test_shapes(void)
     memset(text, 0xaa, sizeof text);
     CHECK(is(tbson_check_shape(BYTES(broken_text), BYTES(text)), TBSON_SHAPE_REFUSED, 2, 0, 0, 9, 9));
     CHECK(holds(text, sizeof text, TEXT("not UTF-8")));
+}
+
+static void test_differences(void)
+{
+    /* Each text with its zero byte; the last one is that of the string. */
+    static const char said[] = ".\0{n:i64}\0{n:i32,m:bool}\0the new field m is no option, and the old struct lacks it\0"
+                               "n\0i64\0i32\0the new type lacks numbers of the old one";
+    uint8_t text[160];
+
+    CHECK(is(tbson_differences(TEXT("{n:i32}"), TEXT("{n:i64,m:?bool}"), NULL, 0), TBSON_DONE, 0, 0, 0, 0, 0));
+    memset(text, 0xaa, sizeof text);
+    CHECK(is(tbson_differences(TEXT("{n:i64}"), TEXT("{n:i32,m:bool}"), BYTES(text)), TBSON_DIFFERENT, 0, 0, 0, sizeof said, sizeof said));
+    CHECK(holds(text, sizeof text, (const uint8_t *)said, sizeof said));
+    memset(text, 0xaa, sizeof text);
+    CHECK(is(tbson_differences(TEXT("{n:i64}"), TEXT("{n:i32,m:bool}"), text, 9), TBSON_DIFFERENT, 0, 0, 0, 9, sizeof said));
+    CHECK(holds(text, sizeof text, (const uint8_t *)said, 9));
+    memset(text, 0xaa, sizeof text);
+    CHECK(is(tbson_differences(TEXT("{n:i33}"), TEXT("{n:i32}"), BYTES(text)), TBSON_OLD_REFUSED, 6, 0, 0, 11, 11));
+    CHECK(holds(text, sizeof text, TEXT("not a shape")));
+    CHECK(is(tbson_differences(TEXT("{n:i32}"), TEXT("{n:i33}"), NULL, 0), TBSON_NEW_REFUSED, 6, 0, 0, 0, 11));
+    memset(text, 0xaa, sizeof text);
+    CHECK(is(tbson_differences(TEXT("{n:i32}"), TEXT("ignored"), BYTES(text)), TBSON_NEW_REFUSED, 0, 0, 0, 26, 26));
+    CHECK(holds(text, sizeof text, TEXT("the new shape is not plain")));
 }
 
 static void test_recast(void)
@@ -343,6 +367,7 @@ int main(void)
     CHECK(tbson_version() == TBSON_VERSION);
     test_status_names();
     test_shapes();
+    test_differences();
     test_recast();
     test_refused_recast();
     test_next_document();

@@ -52,6 +52,37 @@ class Shapes(unittest.TestCase):
             self.assertEqual((caught.exception.place, caught.exception.text), (place, said))
 
 
+class Differences(unittest.TestCase):
+    def test_compatible_shapes(self):
+        self.assertEqual(tbson.differences("{n:i32}", b"{n:i64,m:?bool}"), [])
+
+    def test_differences(self):
+        self.assertEqual(
+            tbson.differences("{n:i64,list:[{a:i32}]}", "{n:i32,list:[{b:i32}],m:bool}"),
+            [
+                (".", "{n:i64,list:[{a:i32}]}", "{n:i32,list:[{b:i32}],m:bool}", "the new field m is no option, and the old struct lacks it"),
+                ("n", "i64", "i32", "the new type lacks numbers of the old one"),
+                ("list[0]", "{a:i32}", "{b:i32}", "the new field b is no option, and the old struct lacks it"),
+            ],
+        )
+
+    def test_many_differences(self):
+        names = ["field%d" % n for n in range(200)]
+        found = tbson.differences("{}", "{%s}" % ",".join("%s:i32" % name for name in names))
+        self.assertEqual([d.reason for d in found], ["the new field %s is no option, and the old struct lacks it" % name for name in names])
+
+    def test_refused_shapes(self):
+        for old, new, status, place, said in [
+            ("{n:i33}", "{n:i32}", tbson.Status.OLD_REFUSED, 6, "not a shape"),
+            ("{n:i32}", "{n:i33}", tbson.Status.NEW_REFUSED, 6, "not a shape"),
+            ("ignored", "{n:i32}", tbson.Status.OLD_REFUSED, 0, "the old shape is not plain"),
+            ("{n:i32}", "ignored", tbson.Status.NEW_REFUSED, 0, "the new shape is not plain"),
+        ]:
+            with self.subTest(old=old, new=new), self.assertRaises(tbson.ShapeRefused) as caught:
+                tbson.differences(old, new)
+            self.assertEqual((caught.exception.status, caught.exception.place, caught.exception.text), (status, place, said))
+
+
 class Recasts(unittest.TestCase):
     def test_a_field_is_taken_and_widened(self):
         self.assertEqual(tbson.recast("{age:i64}", ADA), document(int64("age", 36)))

@@ -159,6 +159,12 @@ def equal_function(type, depth):
     return f"(λ x{depth} y{depth} e{depth}. {type.equal(f'x{depth}', f'y{depth}', f'e{depth}', '')})"
 
 
+def equal_contents(type, x, y):
+    """That the contents of two values are equal. Of pairs and of `tt` the type is said, since none is found."""
+    first, second = fill(type.contents, x), fill(type.contents, y)
+    return f"◌≡◌ {{A = {type.Contents}}} {enclosed(first)} {enclosed(second)}" if re.search(r",|\btt\b", first) else f"{first} ≡ {second}"
+
+
 def fill(template, x, h="h"):
     return template.replace("{x}", x).replace("{h}", h)
 
@@ -277,7 +283,7 @@ def enum_equal_lemma(name, variants, names):
     lines = ["", "-- Two values are `==` where their contents are equal, if those of each variant are.", f"pub {it}_equal : (E : {name} → {name} → Bool)"]
     for variant, type in parts:
         if type:
-            lines += [f"    → ((x y : _) → let p : {name} = cases.{variant} x in let q : {name} = cases.{variant} y in {fill(type.contents, 'x')} ≡ {fill(type.contents, 'y')} → E p q ≡ true)"]
+            lines += [f"    → ((x y : _) → let p : {name} = cases.{variant} x in let q : {name} = cases.{variant} y in {equal_contents(type, 'x', 'y')} → E p q ≡ true)"]
         else:
             lines += [f"    → E cases.{variant} cases.{variant} ≡ true"]
     lines += [f"    → (x y : {name}) → {it}_contents x ≡ {it}_contents y → E x y ≡ true"]

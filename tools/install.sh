@@ -9,7 +9,7 @@
 # out/ are moved there and back, also where it is interrupted, so this and every other command of rt begins with what is proved.
 set -eu
 prefix=${1:-/usr/local}
-programs="bson_recast bson_migrate bson_infer bson_evolve"
+programs="bson_recast bson_migrate bson_stream bson_infer bson_evolve"
 cd "$(dirname "$0")/.."
 mkdir -p "$prefix/bin" "$prefix/share/man/man1"
 if [ -d .git ]; then copy=$(mktemp -d "$PWD/.git/install.XXXXXX"); else copy=$(mktemp -d); fi
@@ -89,6 +89,7 @@ run() {
 }
 run bson_recast bson_recast_output '{i:i32}'
 run bson_migrate bson_migrate '{n:i32}'
+run bson_stream bson_stream '{n:?i32}'
 run bson_infer bson_infer_output
 run bson_evolve bson_evolve '{n:u8}' '{n:u32,m:?string}'
 for name in $programs

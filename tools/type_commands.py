@@ -3,7 +3,7 @@
 
     python3 tools/type_commands.py                      # README.md, the pages in docs/ and the man pages
     python3 tools/type_commands.py README.md            # one page
-    python3 tools/type_commands.py --programs FOLDER    # with the programs bson_recast, bson_migrate, bson_infer and bson_evolve of that folder
+    python3 tools/type_commands.py --programs FOLDER    # with the programs bson_recast, bson_migrate, bson_stream, bson_infer and bson_evolve of that folder
 
 Run at the top of the repository. It types each block of kind `console`, and in a man page each literal block: a line that begins with `$ ` is a command, `> `
 goes on with it, and what follows is its output, standard error included. Blocks of kind `sh` are not typed: they prove for an hour or ask for files that are
@@ -25,7 +25,7 @@ import sys
 import tempfile
 
 MARK = "=== the end of a command ==="
-PROGRAMS = ("bson_recast", "bson_migrate", "bson_infer", "bson_evolve")
+PROGRAMS = ("bson_recast", "bson_migrate", "bson_stream", "bson_infer", "bson_evolve")
 NEEDED = (*PROGRAMS, "rt")
 PROMPT, MORE = "$ ", "> "
 
@@ -110,7 +110,7 @@ def differing(page, path, folder):
 def main():
     parser = argparse.ArgumentParser(description=__doc__, formatter_class=argparse.RawDescriptionHelpFormatter)
     parser.add_argument("pages", nargs="*", default=["README.md", *sorted(glob.glob("docs/*.md") + glob.glob("docs/*.1"))])
-    parser.add_argument("--programs", help="the folder of bson_recast, bson_migrate, bson_infer and bson_evolve")
+    parser.add_argument("--programs", help="the folder of bson_recast, bson_migrate, bson_stream, bson_infer and bson_evolve")
     options = parser.parse_args()
     sys.stdout.reconfigure(line_buffering=True)
     own = [options.programs] if options.programs else [f"crates/{name}/out" for name in PROGRAMS]

@@ -13,6 +13,7 @@ PROJECT = [
     ("docs/CHANGES.md", r"^## (\S+)"),
     ("docs/bson_recast.1", r"^\.Os Vaqischu (\S+)$"),
     ("docs/bson_migrate.1", r"^\.Os Vaqischu (\S+)$"),
+    ("docs/bson_stream.1", r"^\.Os Vaqischu (\S+)$"),
     ("docs/bson_infer.1", r"^\.Os Vaqischu (\S+)$"),
     ("docs/bson_evolve.1", r"^\.Os Vaqischu (\S+)$"),
 ]

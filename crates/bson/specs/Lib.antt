@@ -103,6 +103,13 @@ pub use Rattle.bson_laws.specs.Assembled
 pub use Rattle.bson_laws.specs.FirstKeys
 pub use Rattle.bson_assembled.specs.FreeKeys
 pub use Rattle.bson_evolve_check.specs.Checks
+pub use Rattle.bson_evolve_differences.specs.Differences
+pub use Rattle.bson_evolve_differences.specs.Lists
+pub use Rattle.bson_evolve_differences.specs.Mismatch
+pub use Rattle.bson_evolve_differences.specs.Printed as PrintedReasons
+pub use Rattle.bson_evolve_differences.specs.Reached
+pub use Rattle.bson_evolve_differences.specs.Reasons
+pub use Rattle.bson_evolve_differences.specs.Views as DifferenceViews
 pub use Rattle.bson_evolve_laws.specs.Compatible
 pub use Rattle.bson_evolve_laws.specs.First
 pub use Rattle.bson_evolve_laws.specs.Placed

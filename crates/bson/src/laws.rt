@@ -5,6 +5,7 @@
 
 pub use bson_assembled::law_assembled;
 pub use bson_base::law_opened_folds;
+pub use bson_evolve_differences::law_differences;
 pub use bson_evolve_laws::{law_compatible, law_first_fault, law_plain, law_reflexive};
 pub use bson_helpers::law_marks_compare;
 pub use bson_infer_laws::{
@@ -17,6 +18,7 @@ pub use bson_laws::{
     law_reads_numbers, law_reads_spell, law_reads_tree, law_recast_again, law_references_read,
     law_references_seen, law_spell_means, law_views_means, law_views_reads,
 };
+pub use bson_number_laws::law_tree_numbers;
 pub use bson_recast_run::law_run_again;
 pub use bson_shape::{law_guarded, law_text};
 pub use bson_tree_laws::{law_fitting_written, law_writers};

@@ -14,7 +14,7 @@
 //! | types of one's own | `Serialize`, `Deserialize`, `RoundTrip`, `NeverNull`, `EqualByContents`; `to_vec`, `to_raw_document_buf`, `to_bson`, `to_document`, `from_bson`, `from_document`, and with options; `from_slice`, `from_reader`, and lossy; `FieldShapes`, `StructFields`, `add_field`, `struct_datum`, `VariantShapes`, `unit_variant`, `newtype_variant`, `is_unit_variant`, `newtype_value` and `not_fitting` for their impls; `HumanReadable`, `Utf8LossyDeserialization`, the modules of `bson_helpers` and the second names of their calls |
 //! | both at once | `recast`, `recast_utf8_lossy`, `recast_to_buf`, `recast_by_tree` |
 //! | the shape of documents | `infer` |
-//! | whether what is written at one shape is read at another | `check` and `Verdict` |
+//! | whether what is written at one shape is read at another | `check` and `Verdict`; `differences`, `Difference` and `Reason` for each pair of parts that does not pass |
 //! | trees | `Bson`, `Document` with `KeySeed`, `Iter`, `Keys` and `IntoIter`, and the types of values, such as `ObjectId`, `DateTime` and `Binary`; `read_value` and `Met` to read from one by the rules for bytes |
 //! | documents in their bytes | `RawDocument`, `RawArray`, `RawElement`, `RawIter`, `RawBsonRef`, `Unjudged`; `RawDocumentBuf`, `RawArrayBuf` to own the bytes; `RawValue`, a value by its kind and bytes, of `raw_from_element` and `raw_from_bson` |
 //! | files of documents | `RawDocuments`; `migrate`, `Migration`, `Refused`, `lines_of` |
@@ -531,6 +531,9 @@ pub use bson_de_tree::from_document_with_options_at;
 pub use bson_evolve_check::CheckError;
 pub use bson_evolve_check::Verdict;
 pub use bson_evolve_check::check;
+pub use bson_evolve_differences::Difference;
+pub use bson_evolve_differences::Reason;
+pub use bson_evolve_differences::differences;
 pub use bson_evolve_run::CheckStatus;
 pub use bson_evolve_run::run_check;
 pub use bson_helpers::HumanReadable;

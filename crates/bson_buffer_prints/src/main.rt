@@ -2,6 +2,7 @@
 //! the text. The gate compares the lines with those in `stdout`, which come from what the calls promise and from the texts of the refusals.
 #![tactic(auto)]
 
+mod differences;
 mod documents;
 mod files;
 mod reports;
@@ -14,6 +15,7 @@ use std::io;
 /// Adds all lines.
 fn add_all(lines: &mut Lines, alloc: Global) {
     shapes::add_judged(lines, alloc);
+    differences::add_differences(lines, alloc);
     documents::add_recast(lines, alloc);
     documents::add_found(lines);
     files::add_migrated(lines, alloc);

@@ -1,6 +1,7 @@
 pub mod Refusals
 pub mod Delivery
 pub mod Checked
+pub mod Compared
 pub mod Recast
 pub mod Migrated
 pub mod Pieces

@@ -146,11 +146,7 @@ module _ (shape file : Bytes) (place : ℕ) (output : Bytes) (said : Utf8) (reco
         ),
         w.0 ∙ sym (status_named shape file (length c.buffer.before) h.0 (broken place) h.1 h.2),
       )
-  listing_row statuses.ReadRefused h d = absurd h
-  listing_row statuses.WriteRefused h d = absurd h
-  listing_row statuses.End h d = absurd h
-  listing_row statuses.BufferTooSmall h d = absurd h
-  listing_row statuses.NoMemory h d = absurd h
+  listing_row expected h d = absurd h
 
 by_row : (shape file : Bytes) (status : Status) (c : Call) (a : Records) → IsListingRow shape file status c a → (status ≡ migration_status_at (length c.buffer.before) file (shape_of_bytes shape)) ⊎ (status ≡ statuses.NoMemory)
     → IsListedMigration shape file status c a

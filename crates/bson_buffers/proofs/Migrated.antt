@@ -140,11 +140,7 @@ migration_row shape file statuses.Broken place output said status c h d =
       }),
       w.0 ∙ sym (status_named shape file (length c.buffer.before) h.0 (broken place) h.1 h.2),
     )
-migration_row shape file statuses.ReadRefused place output said status c h d = absurd h
-migration_row shape file statuses.WriteRefused place output said status c h d = absurd h
-migration_row shape file statuses.End place output said status c h d = absurd h
-migration_row shape file statuses.BufferTooSmall place output said status c h d = absurd h
-migration_row shape file statuses.NoMemory place output said status c h d = absurd h
+migration_row shape file expected place output said status c h d = absurd h
 
 by_row : (shape file : Bytes) (status : Status) (c : Call) → IsMigrationRow shape file status c → (status ≡ migration_status_at (length c.buffer.before) file (shape_of_bytes shape)) ⊎ (status ≡ statuses.NoMemory)
     → IsMigrated shape file status c

@@ -90,11 +90,7 @@ recast_row shape bytes statuses.WriteRefused place output said status c h d =
       }),
       w.0 ∙ sym (status_named shape bytes (length c.buffer.before) h.0 (recast_of h.0 bytes) h.2 refl ∙ unwritten_status (length c.buffer.before) (recast_of h.0 bytes) h.1 h.3),
     )
-recast_row shape bytes statuses.SomeRefused place output said status c h d = absurd h
-recast_row shape bytes statuses.Broken place output said status c h d = absurd h
-recast_row shape bytes statuses.End place output said status c h d = absurd h
-recast_row shape bytes statuses.BufferTooSmall place output said status c h d = absurd h
-recast_row shape bytes statuses.NoMemory place output said status c h d = absurd h
+recast_row shape bytes expected place output said status c h d = absurd h
 
 by_row : (shape bytes : Bytes) (status : Status) (c : Call) → IsRecastRow shape bytes status c → (status ≡ recast_status_at (length c.buffer.before) bytes (shape_of_bytes shape)) ⊎ (status ≡ statuses.NoMemory)
     → IsRecast shape bytes status c

@@ -1,11 +1,16 @@
 -- What must be written for a call before its buffers are looked at. For the contracts of functions inside this crate and their proofs; no public contract cites it.
 -- Source: this library's own calls with buffers.
-use Rattle.std.specs.Prelude.{◌≡◌, ◌<◌, ◌≤◌, ℕ, List, [], ◌∷◌, length, string_bytes}
+use Rattle.std.specs.Prelude.{◌≡◌, ◌<◌, ◌≤◌, ◌⊎◌, ℕ, List, [], ◌∷◌, length, string_bytes}
 use Rattle.bson_kinds.specs.Text.{Bytes, Utf8}
 use Rattle.bson_values.specs.Printed.{printed_failure, printed_read_fault, printed_write_fault}
 use Rattle.bson_values.specs.Refusal as refusal
 use Rattle.bson_shape.specs.Form.{Form}
 use Rattle.bson_laws.specs.Settled.{IsSettled}
+use Rattle.bson_evolve_check.specs.Checks.{ArePlain}
+use Rattle.bson_evolve_check.specs.Printed.{check_error_text}
+use Rattle.bson_evolve_check.specs.declared.checking.CheckError.TheVariants.{OldNotPlain, NewNotPlain}
+use Rattle.bson_evolve_differences.specs.Differences.{AreDifferences, Difference}
+use Rattle.bson_laws.specs.Plain.{IsPlain}
 use Rattle.bson_tree_recast.specs.Recast.{recast_of, writes, unread, Unwritten}
 use Rattle.bson_migrate_run.specs.declared.migrating.Migration.{Migration}
 use Rattle.bson_migrate_run.specs.declared.migrating.Refused.{Refused}
@@ -13,6 +18,7 @@ use Rattle.bson_migrate_run.specs.Lines.{refused_lines, AreLines}
 use Rattle.bson_migrate_run.specs.Migrating.{NotRecast, broken, migrated, migration_of}
 use Rattle.bson_buffers.specs.Asked.{DenotesShape, DenotesNone}
 use Rattle.bson_buffers.specs.Checks.{NoShapeRow}
+use Rattle.bson_buffers.specs.Compares.{difference_texts, differing_status, CompatibleRow, DenoteShapes, DifferentRow, NewRefusedRow, OldRefusedRow}
 use Rattle.bson_buffers.specs.Migrates as migrates
 use Rattle.bson_buffers.specs.Recasts.{RecastRow, LargerRow, UnreadRow, UnwrittenRow}
 use Rattle.bson_buffers.specs.Buffers.{Call, Writes, LacksSpace, Tells, IsSilent}
@@ -82,3 +88,34 @@ IsMigrationRow shape file statuses.ShapeRefused c = NoShapeRow shape c
 IsMigrationRow shape file statuses.Broken c = migrates.BrokenRow shape file c
 IsMigrationRow shape file statuses.NoMemory c = IsSilent c
 IsMigrationRow shape file status c = ⊥
+
+-- the same for two shapes
+abbrev pub IsForShapes : (old new : Form) → Status → (place : ℕ) → (output : Bytes) → (said : Utf8) → Type 0
+IsForShapes old new statuses.Done place output said = ArePlain old new × AreDifferences old new [] × (place ≡ 0) × (output ≡ []) × (said ≡ [])
+IsForShapes old new statuses.Different place output said =
+    (first : Difference) × (others : List Difference) × ArePlain old new × AreDifferences old new (first ∷ others) × (place ≡ 0) × (output ≡ []) × (said ≡ difference_texts (first ∷ others))
+IsForShapes old new statuses.OldRefused place output said = (IsPlain old → ⊥) × (place ≡ 0) × (output ≡ []) × (said ≡ check_error_text OldNotPlain)
+IsForShapes old new statuses.NewRefused place output said = IsPlain old × (IsPlain new → ⊥) × (place ≡ 0) × (output ≡ []) × (said ≡ check_error_text NewNotPlain)
+IsForShapes old new status place output said = ⊥
+
+-- The texts of differences.
+pub record IsOfDifferences (ds : List Difference) (d : expected.Expected) : Type 0 where
+  pub status : d.status ≡ differing_status ds
+  pub place : d.place ≡ 0
+  pub output : d.output.items ≡ []
+  pub texts : string_bytes d.text ≡ difference_texts ds
+
+-- the same for bytes that may be two shapes
+abbrev pub IsForComparison : (old new : Bytes) → Status → (place : ℕ) → (output : Bytes) → (said : Utf8) → Type 0
+IsForComparison old new status place output said =
+    ((status ≡ statuses.OldRefused) × DenotesNone old (record { place = place; said = said }) × (output ≡ []))
+    ⊎ ((a : Form) × DenotesShape old a × (status ≡ statuses.NewRefused) × DenotesNone new (record { place = place; said = said }) × (output ≡ []))
+    ⊎ ((a : Form) × (b : Form) × DenoteShapes old new a b × IsForShapes a b status place output said)
+
+abbrev pub IsComparisonRow : (old new : Bytes) → Status → Call → Type 0
+IsComparisonRow old new statuses.Done c = CompatibleRow old new c
+IsComparisonRow old new statuses.Different c = DifferentRow old new c
+IsComparisonRow old new statuses.OldRefused c = OldRefusedRow old new c
+IsComparisonRow old new statuses.NewRefused c = NewRefusedRow old new c
+IsComparisonRow old new statuses.NoMemory c = IsSilent c
+IsComparisonRow old new status c = ⊥

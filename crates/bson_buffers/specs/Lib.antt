@@ -3,6 +3,7 @@ pub mod Buffers
 pub mod Asked
 pub mod Judged
 pub mod Checks
+pub mod Compares
 pub mod Recasts
 pub mod Migrates
 pub mod Finding

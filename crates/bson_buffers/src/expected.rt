@@ -42,8 +42,18 @@ impl Expected {
         ensures output { result.output.items ≡ [] }
         ensures text { string_bytes result.text ≡ string_bytes refusal.text }
     {
+        Expected::refused(alloc, Status::ShapeRefused, refusal)
+    }
+
+    /// The refusal of a shape, which this status tells of.
+    pub fn refused(alloc: Global, status: Status, refusal: ShapeRefusal) -> Expected
+        ensures status { result.status ≡ status }
+        ensures place { result.place ≡ refusal.place }
+        ensures output { result.output.items ≡ [] }
+        ensures text { string_bytes result.text ≡ string_bytes refusal.text }
+    {
         Expected {
-            status: Status::ShapeRefused,
+            status,
             place: refusal.place,
             output: Vec::new(alloc),
             text: refusal.text,

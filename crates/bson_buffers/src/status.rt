@@ -22,10 +22,16 @@ pub enum Status {
     BufferTooSmall,
     /// Memory ran out.
     NoMemory,
+    /// The shapes are not compatible.
+    Different,
+    /// The bytes that stand for the old of two shapes are the notation of none, or of one that is not plain.
+    OldRefused,
+    /// The same of the new one.
+    NewRefused,
 }
 
 impl Status {
-    /// The number that stands for the status outside: 0 to 8 in the order above.
+    /// The number that stands for the status outside: 0 to 11 in the order above.
     pub fn number(self) -> u32
         ensures number { result ≡ number_of self }
     {
@@ -39,6 +45,9 @@ impl Status {
             Status::End => 6,
             Status::BufferTooSmall => 7,
             Status::NoMemory => 8,
+            Status::Different => 9,
+            Status::OldRefused => 10,
+            Status::NewRefused => 11,
         }
     }
 }

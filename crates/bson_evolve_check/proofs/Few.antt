@@ -20,7 +20,7 @@ all_pairs old new = pairs (all_places old) (all_places new)
 pub first_among : (old new : Form) → is_met (all_pairs old new) (start old new).pair ≡ true
 first_among old new = in_met (all_pairs old new) (start old new).pair (pair_there (placed no_fields old) (placed no_fields new) (all_places old) (all_places new) (whole_there old) (whole_there new))
 
-steps_among : (all : List Pair) (d : PendingPair) (ss : List Step) → Meets (λ x y. In (pair_of (placed d.pair.old.around x) (placed d.pair.new.around y)) all) ss → AreAmong all (map (pending_step d) ss)
+pub steps_among : (all : List Pair) (d : PendingPair) (ss : List Step) → Meets (λ x y. In (pair_of (placed d.pair.old.around x) (placed d.pair.new.around y)) all) ss → AreAmong all (map (pending_step d) ss)
 steps_among all d [] m = tt
 steps_among all d (s ∷ ss) m = (in_met all (pending_step d s).pair m.0, steps_among all d ss m.1)
 

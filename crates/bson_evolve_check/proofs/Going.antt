@@ -1,18 +1,18 @@
 -- How the search goes on.
-use Rattle.std.proofs.Common.{◌≡◌, ℕ, zero, suc, ◌+◌, ◌<◌, ◌≤◌, Bool, true, false, cond, not, List, [], ◌∷◌, ◌++◌, drop, get_or, length, map, reverse, take, take_all, Some, None, refl, ap, sym, subst, ◌∙◌, arith}
+use Rattle.std.proofs.Common.{◌≡◌, ℕ, suc, ◌+◌, ◌<◌, ◌≤◌, Bool, true, false, cond, not, List, [], ◌∷◌, ◌++◌, drop, get_or, length, map, reverse, take, take_all, Some, None, refl, ap, sym, subst, ◌∙◌, arith}
 use Rattle.std.specs.BTreeSet.{BTreeSet}
 use Rattle.std.proofs.lemmas.List.{append-nil, append_assoc, length-append, length-take-le, map-append, reverse-append, reverse-reverse, take-take, take_at}
 use Rattle.bson_shape.specs.Form.{Form, Fields, no_fields}
 use Rattle.bson_values.specs.Refusal.{Path}
 use Rattle.bson_evolve_laws.specs.Compatible.{IsCompatible}
-use Rattle.bson_evolve_laws.specs.First.{Pair, pair_of, is_met, PendingPair, pending_step, Outcome, fault, unmet, entered, entered_first, search, start, IsFirstFault}
+use Rattle.bson_evolve_laws.specs.First.{Pair, pair_of, is_met, PendingPair, pending_step, Outcome, unmet, entered, entered_first, search, start, IsFirstFault}
 use Rattle.bson_evolve_laws.specs.Placed.{placed, peel, Placed}
-use Rattle.bson_evolve_laws.specs.Rows.{row}
+use Rattle.bson_evolve_laws.specs.Rows.{row, Step as RowStep}
 use Rattle.bson_evolve_laws.proofs.Searched.{search_yes}
 use Rattle.bson_evolve_check.specs.Meeting.{PairKey, pair_at, Holds, IsMeeting}
 use Rattle.bson_evolve_check.specs.Numbering.{parts_in, AreGood, AreMore}
 use Rattle.bson_evolve_check.specs.Placing.{place_view, tables_in, AreDifferent, IsAt, IsMore, IsTable}
-use Rattle.bson_evolve_check.specs.Searching.{pending_at, pending_list, pending_view, pending_of, next_view, route_path, AreAmong, AreKnown, AreWithin, GoesOn, IsNext}
+use Rattle.bson_evolve_check.specs.Searching.{pending_at, pending_list, pending_view, pending_of, next_view, route_path, AreAmong, AreKnown, AreWithin, GoesOn, IsNext, Searches}
 use Rattle.bson_evolve_check.specs.Steps.{step_view, steps_view, way_path}
 use Rattle.bson_evolve_check.specs.declared.parts.Part.{Part}
 use Rattle.bson_evolve_check.specs.declared.parts.Parts.{Parts}
@@ -32,12 +32,24 @@ use Rattle.bson_evolve_check.proofs.Pushes.{drop_next}
 abbrev later : ℕ → List Pair → List PendingPair → Outcome
 later n more ds = search n more ds
 
-search_skips : (n : ℕ) (pairs : List Pair) (d : PendingPair) (ds : List PendingPair) → is_met pairs d.pair ≡ true → search n pairs (d ∷ ds) ≡ search n pairs ds
-search_skips zero pairs d ds e = refl
-search_skips (suc n) pairs d ds e = ap (λ b. entered_first (later n) pairs (cond b (unmet pairs ds) (d ∷ ds))) e
+skips_met : (pairs : List Pair) (d : PendingPair) (ds : List PendingPair) → is_met pairs d.pair ≡ true → unmet pairs (d ∷ ds) ≡ unmet pairs ds
+skips_met pairs d ds e = ap (λ b. cond b (unmet pairs ds) (d ∷ ds)) e
 
-search_enters : (n : ℕ) (pairs : List Pair) (d : PendingPair) (ds : List PendingPair) → is_met pairs d.pair ≡ false → search (suc n) pairs (d ∷ ds) ≡ entered (later n) pairs d ds (row d.pair.old.form d.pair.new.form)
-search_enters n pairs d ds e = ap (λ b. entered_first (later n) pairs (cond b (unmet pairs ds) (d ∷ ds))) e
+stops_at : (pairs : List Pair) (d : PendingPair) (ds : List PendingPair) → is_met pairs d.pair ≡ false → unmet pairs (d ∷ ds) ≡ d ∷ ds
+stops_at pairs d ds e = ap (λ b. cond b (unmet pairs ds) (d ∷ ds)) e
+
+-- each pair that was met passes
+pub passes : (old new : Form) (pairs : List Pair) (before : List PendingPair) → unmet pairs before ≡ [] → Searches old new pairs before → IsCompatible old new
+passes old new pairs before none left = let r = left 1 in search_yes r.0 old new pairs (r.1 ∙ ap (entered_first (later 0) pairs) none)
+
+module _ (old new : Form) (pairs : List Pair) (before rest : List PendingPair) (d : PendingPair) (first : unmet pairs before ≡ d ∷ rest) (left : Searches old new pairs before) where
+  -- no row names the first that was not met
+  pub faults : row d.pair.old.form d.pair.new.form ≡ None → IsFirstFault old new d.path
+  faults none = let r = left 1 in (r.0, r.1 ∙ ap (entered_first (later 0) pairs) first ∙ ap (entered (later 0) pairs d rest) none)
+
+  -- a row names it
+  pub searches : (ss : List RowStep) → row d.pair.old.form d.pair.new.form ≡ Some ss → Searches old new (d.pair ∷ pairs) (map (pending_step d) ss ++ rest)
+  searches ss is = λ n. let r = left (suc n) in (r.0, r.1 ∙ ap (entered_first (later n) pairs) first ∙ ap (entered (later n) pairs d rest) is)
 
 -- ---- the route
 
@@ -106,33 +118,34 @@ not_is true false e = refl
 not_is false true e = refl
 not_is false false e = absurd (let both : false ≡ true = e in cc)
 
-module _ (old new : Form) (all pairs : List Pair) where
-  -- the search begins with the pair of the two shapes
-  pub begins : (parts : Parts) (met : BTreeSet PairKey) (d : Pending) → AreGood parts → Holds (parts_in parts) met [] → IsTable (tables_in parts.tables) d.old.table → IsTable (tables_in parts.tables) d.new.table → d.level ≡ 0 → way_path d.way ≡ []
-      → place_view d.old ≡ placed no_fields old → place_view d.new ≡ placed no_fields new → is_met all (start old new).pair ≡ true → GoesOn old new all [] parts met [] (d ∷ [])
-  begins parts met d a h i j level way p q among =
+-- the search begins with the pair of the two shapes
+module _ (old new : Form) (d : Pending) (level : d.level ≡ 0) (way : way_path d.way ≡ []) (p : place_view d.old ≡ placed no_fields old) (q : place_view d.new ≡ placed no_fields new) where
+  first_is : start old new ≡ pending_view [] d
+  first_is =
       let path : route_path (take d.level []) ++ way_path d.way ≡ [] = (λ k. route_path (take (level k) []) ++ way k) in
-      let first : start old new ≡ pending_view [] d = λ k. record { path = sym path k; pair = pair_of (sym p k) (sym q k) } in
-      record {
-        good = a;
-        holds = h;
-        within = (omega (arith, level), tt);
-        known = (i, j, tt);
-        among = (subst (λ (x : PendingPair). is_met all x.pair ≡ true) first among, tt);
-        left = λ n. (n, ap (λ x. search n [] (x ∷ [])) first);
-      }
+      λ k. record { path = sym path k; pair = pair_of (sym p k) (sym q k) }
 
+  pub start_is : start old new ∷ [] ≡ pending_list [] (d ∷ [])
+  start_is = ap (λ x. x ∷ []) first_is
+
+  pub begins : (all : List Pair) (parts : Parts) (met : BTreeSet PairKey) → AreGood parts → Holds (parts_in parts) met [] → IsTable (tables_in parts.tables) d.old.table → IsTable (tables_in parts.tables) d.new.table → is_met all (start old new).pair ≡ true
+      → GoesOn all [] parts met [] (d ∷ [])
+  begins all parts met a h i j among = record {
+    good = a;
+    holds = h;
+    within = (omega (arith, level), tt);
+    known = (i, j, tt);
+    among = (subst (λ (x : PendingPair). is_met all x.pair ≡ true) first_is among, tt);
+  }
+
+module _ (all pairs : List Pair) where
   -- no pair is left to be entered
-  pub ends : (parts : Parts) (met : BTreeSet PairKey) (route : List Way) (pending : List Pending) → pending ≡ [] → GoesOn old new all pairs parts met route pending → (n : ℕ) → (m : ℕ) × (search m [] (start old new ∷ []) ≡ search n pairs [])
-  ends parts met route pending e g n = let r = g.left n in (r.0, r.1 ∙ ap (λ ds. search n pairs (pending_list route ds)) e)
-
-  -- each pair that was met passes
-  pub passes : ((n : ℕ) → (m : ℕ) × (search m [] (start old new ∷ []) ≡ search n pairs [])) → IsCompatible old new
-  passes left = let r = left 1 in search_yes r.0 old new pairs r.1
+  pub ends : (route : List Way) (pending : List Pending) → pending ≡ [] → unmet pairs (pending_list route pending) ≡ []
+  ends route pending e = ap (λ ds. unmet pairs (pending_list route ds)) e
 
   -- ---- the pair that is popped
 
-  module _ (parts : Parts) (met : BTreeSet PairKey) (route : List Way) (pending rest : List Pending) (d : Pending) (pop : pending ≡ rest ++ d ∷ []) (g : GoesOn old new all pairs parts met route pending) where
+  module _ (parts : Parts) (met : BTreeSet PairKey) (route : List Way) (pending rest : List Pending) (d : Pending) (pop : pending ≡ rest ++ d ∷ []) (g : GoesOn all pairs parts met route pending) where
     abbrev view : PendingPair
     view = pending_view route d
 
@@ -161,47 +174,43 @@ module _ (old new : Form) (all pairs : List Pair) where
       was_met = not_is added (is_met pairs (pair_at a b)) meeting.test
 
       -- a pair that was met already is passed over
-      pub skips : added ≡ false → GoesOn old new all pairs more now route rest
+      pub skips : added ≡ false → GoesOn all pairs more now route rest
       skips e = record {
         good = m.good;
         holds = subst (λ t. Holds (parts_in more) now (cond t (pair_at a b ∷ pairs) pairs)) e meeting.holds;
         within = within_more d.level (length route) (reverse rest) within.0 within.1;
         known = known_more (tables_in parts.tables) (tables_in more.tables) m.tables (reverse rest) known.2;
         among = among.1;
-        left = λ n. let r = g.left n in (r.0, r.1 ∙ ap (search n pairs) all_pending ∙ search_skips n pairs view (pending_list route rest) (ap (is_met pairs) pair_is ∙ was_met ∙ ap not e));
       }
 
+      pub skipped : added ≡ false → unmet pairs (pending_list route pending) ≡ unmet pairs (pending_list route rest)
+      skipped e = ap (unmet pairs) all_pending ∙ skips_met pairs view (pending_list route rest) (ap (is_met pairs) pair_is ∙ was_met ∙ ap not e)
+
       -- one that was not comes next
-      pub comes : added ≡ true → (next : Pending) → next.level ≡ d.level → next.way ≡ d.way → next.old ≡ a → next.new ≡ b → IsNext old new all pairs more now route next rest
-      comes e next level way first second =
+      pub comes : added ≡ true → (next : Pending) → next.level ≡ d.level → next.way ≡ d.way → next.old ≡ a → next.new ≡ b → (before : List PendingPair) → unmet pairs before ≡ unmet pairs (pending_list route pending) → IsNext all pairs before more now route next rest
+      comes e next level way first second before left =
           let here : pair_at next.old next.new ≡ pair_at a b = (λ k. pair_at (first k) (second k)) in
           let same : view ≡ next_view route next = λ k. record { path = route_path (take (sym level k) route) ++ way_path (sym way k); pair = (pair_is ∙ sym here) k } in
           record {
             good = m.good;
             holds = subst (λ p. Holds (parts_in more) now (p ∷ pairs)) (sym here) (subst (λ t. Holds (parts_in more) now (cond t (pair_at a b ∷ pairs) pairs)) e meeting.holds);
-            unmet = ap (is_met pairs) here ∙ was_met ∙ ap not e;
+            fresh = ap (is_met pairs) here ∙ was_met ∙ ap not e;
             within = (subst (λ n. n ≤ length route) (sym level) within.0, subst (λ n. AreWithin n (reverse rest)) (sym level) within.1);
             known =
                 (subst (λ (p : Place). IsTable (tables_in more.tables) p.table) (sym first) i, subst (λ (p : Place). IsTable (tables_in more.tables) p.table) (sym second) j, known_more (tables_in parts.tables) (tables_in more.tables) m.tables (reverse rest) known.2);
             here = subst (λ p. is_met all p ≡ true) (pair_is ∙ sym here) among.0;
             among = among.1;
-            left = λ n. let r = g.left n in (r.0, r.1 ∙ ap (search n pairs) (all_pending ∙ (λ k. same k ∷ pending_list route rest)));
+            first = left ∙ ap (unmet pairs) all_pending ∙ stops_at pairs view (pending_list route rest) (ap (is_met pairs) pair_is ∙ was_met ∙ ap not e) ∙ (λ k. same k ∷ pending_list route rest);
           }
 
   -- ---- the pair that comes next
 
-  module _ (parts : Parts) (met : BTreeSet PairKey) (route : List Way) (rest : List Pending) (d : Pending) (g : IsNext old new all pairs parts met route d rest) (after : List Way) (longer : after ≡ take d.level route ++ d.way ∷ []) where
+  module _ (before : List PendingPair) (parts : Parts) (met : BTreeSet PairKey) (route : List Way) (rest : List Pending) (d : Pending) (g : IsNext all pairs before parts met route d rest) (after : List Way) (longer : after ≡ take d.level route ++ d.way ∷ []) where
     abbrev next : PendingPair
     next = next_view route d
 
-    path_is : route_path after ≡ next.path
+    pub path_is : route_path after ≡ next.path
     path_is = ap route_path longer ∙ path_one (take d.level route) d.way
-
-    -- no row names it
-    pub faults : row d.old.shape.now d.new.shape.now ≡ None → IsFirstFault old new (route_path after)
-    faults none =
-        let r = g.left 1 in
-        (r.0, r.1 ∙ search_enters 0 pairs next (pending_list route rest) g.unmet ∙ ap (entered (later 0) pairs next (pending_list route rest)) none ∙ ap fault (sym path_is))
 
     level_is : length after ≡ suc d.level
     level_is =
@@ -223,25 +232,23 @@ module _ (old new : Form) (all pairs : List Pair) where
         let first : take d.level after ≡ take d.level route = ap (take d.level) longer ∙ take_at (take d.level route) (d.way ∷ []) d.level (length-take-le d.level route g.within.0) in
         same_pending d.level after route first (reverse rest) g.within.1
 
-    -- the pairs that its row names are to be entered next
-    pub enters : (ss : List Step) → row d.old.shape.now d.new.shape.now ≡ Some (steps_view ss) → AreAmong all (map (pending_step next) (steps_view ss)) → (pending : List Pending) → pending ≡ rest ++ reverse (map (pending_at (length after) d.old.table d.new.table) ss)
-        → GoesOn old new all (pair_at d.old d.new ∷ pairs) parts met after pending
-    enters ss is closed pending f =
-        let steps = map (pending_at (length after) d.old.table d.new.table) ss in
-        let order : reverse pending ≡ steps ++ reverse rest = ap reverse f ∙ reverse-append rest (reverse steps) ∙ ap (λ xs. xs ++ reverse rest) (reverse-reverse steps) in
-        let pending_is : pending_list after pending ≡ map (pending_step next) (steps_view ss) ++ pending_list route rest =
-        ap (map (pending_view after)) order ∙ map-append (pending_view after) steps (reverse rest) ∙ (λ k. steps_are ss k ++ others_are k) in
-        record {
-          good = g.good;
-          holds = g.holds;
-          within = subst (AreWithin (length after)) (sym order)
-              (within_all (length after) ss d.old.table d.new.table (reverse rest) (within_more d.level (length after) (reverse rest) (omega (arith, level_is)) g.within.1));
-          known = subst (AreKnown (tables_in parts.tables)) (sym order) (known_all (tables_in parts.tables) (length after) d.old.table d.new.table g.known.0 g.known.1 ss (reverse rest) g.known.2);
-          among = subst (AreAmong all) (sym pending_is) (among_all all (map (pending_step next) (steps_view ss)) (pending_list route rest) closed g.among);
-          left = λ n.
-              let r = g.left (suc n) in (
-                r.0,
-                r.1 ∙ search_enters n pairs next (pending_list route rest) g.unmet ∙ ap (entered (later n) pairs next (pending_list route rest)) is
-                    ∙ ap (search n (pair_at d.old d.new ∷ pairs)) (sym pending_is),
-              );
-        }
+    -- the pairs of these steps are to be entered next
+    module _ (ss : List Step) (pending : List Pending) (f : pending ≡ rest ++ reverse (map (pending_at (length after) d.old.table d.new.table) ss)) where
+      order : reverse pending ≡ map (pending_at (length after) d.old.table d.new.table) ss ++ reverse rest
+      order =
+          let steps = map (pending_at (length after) d.old.table d.new.table) ss in
+          ap reverse f ∙ reverse-append rest (reverse steps) ∙ ap (λ xs. xs ++ reverse rest) (reverse-reverse steps)
+
+      pub pending_is : pending_list after pending ≡ map (pending_step next) (steps_view ss) ++ pending_list route rest
+      pending_is =
+          let steps = map (pending_at (length after) d.old.table d.new.table) ss in
+          ap (map (pending_view after)) order ∙ map-append (pending_view after) steps (reverse rest) ∙ (λ k. steps_are ss k ++ others_are k)
+
+      pub enters : AreAmong all (map (pending_step next) (steps_view ss)) → GoesOn all (pair_at d.old d.new ∷ pairs) parts met after pending
+      enters closed = record {
+        good = g.good;
+        holds = g.holds;
+        within = subst (AreWithin (length after)) (sym order) (within_all (length after) ss d.old.table d.new.table (reverse rest) (within_more d.level (length after) (reverse rest) (omega (arith, level_is)) g.within.1));
+        known = subst (AreKnown (tables_in parts.tables)) (sym order) (known_all (tables_in parts.tables) (length after) d.old.table d.new.table g.known.0 g.known.1 ss (reverse rest) g.known.2);
+        among = subst (AreAmong all) (sym pending_is) (among_all all (map (pending_step next) (steps_view ss)) (pending_list route rest) closed g.among);
+      }

@@ -6,7 +6,7 @@ use Rattle.bson_values.specs.PathView.{path_view}
 use Rattle.bson_values.specs.Refusal as refusal
 use Rattle.bson_values.specs.declared.path.Path.{Path}
 use Rattle.bson_evolve_laws.specs.Compatible.{IsCompatible}
-use Rattle.bson_evolve_laws.specs.First.{is_met, pair_of, search, start, PendingPair, IsFirstFault, Pair}
+use Rattle.bson_evolve_laws.specs.First.{is_met, pair_of, search, start, unmet, PendingPair, IsFirstFault, Pair}
 use Rattle.bson_evolve_laws.specs.Rows.{row}
 use Rattle.bson_evolve_check.specs.Meeting.{pair_at, Holds, PairKey}
 use Rattle.bson_evolve_check.specs.Numbering.{parts_in, AreGood}
@@ -56,34 +56,37 @@ AreAmong all (d ∷ ds) = (is_met all d.pair ≡ true) × AreAmong all ds
 abbrev pub pending_list : List Way → List Pending → List PendingPair
 pending_list route pending = map (pending_view route) (reverse pending)
 
--- What is left to be searched, where these pairs were met, gives what the whole search gives.
-pub record GoesOn (old new : Form) (all pairs : List Pair) (parts : Parts) (met : BTreeSet PairKey) (route : List Way) (pending : List Pending) : Type 0 where
+-- What is still to be entered, where these pairs were met: all of it is numbered, and among these pairs.
+pub record GoesOn (all pairs : List Pair) (parts : Parts) (met : BTreeSet PairKey) (route : List Way) (pending : List Pending) : Type 0 where
   pub good : AreGood parts
   pub holds : Holds (parts_in parts) met pairs
   pub within : AreWithin (length route) (reverse pending)
   pub known : AreKnown (tables_in parts.tables) (reverse pending)
   pub among : AreAmong all (pending_list route pending)
-  pub left : (n : ℕ) → (m : ℕ) × (search m [] (start old new ∷ []) ≡ search n pairs (pending_list route pending))
 
 -- a pair that was met just now, each part of it seen through, and the path to it
 abbrev pub next_view : List Way → Pending → PendingPair
 next_view route d = record { path = route_path (take d.level route) ++ way_path d.way; pair = pair_at d.old d.new }
 
--- The first pair that was not met yet is this one, behind which these are still to be entered.
-pub record IsNext (old new : Form) (all pairs : List Pair) (parts : Parts) (met : BTreeSet PairKey) (route : List Way) (d : Pending) (pending : List Pending) : Type 0 where
+-- The first of the pairs before that was not met yet is this one, behind which these are still to be entered.
+pub record IsNext (all pairs : List Pair) (before : List PendingPair) (parts : Parts) (met : BTreeSet PairKey) (route : List Way) (d : Pending) (pending : List Pending) : Type 0 where
   pub good : AreGood parts
   pub holds : Holds (parts_in parts) met (pair_at d.old d.new ∷ pairs)
-  pub unmet : is_met pairs (pair_at d.old d.new) ≡ false
+  pub fresh : is_met pairs (pair_at d.old d.new) ≡ false
   pub within : AreWithin (length route) (d ∷ reverse pending)
   pub known : AreKnown (tables_in parts.tables) (d ∷ reverse pending)
   pub here : is_met all (pair_at d.old d.new) ≡ true
   pub among : AreAmong all (pending_list route pending)
-  pub left : (n : ℕ) → (m : ℕ) × (search m [] (start old new ∷ []) ≡ search n pairs (next_view route d ∷ pending_list route pending))
+  pub first : unmet pairs before ≡ next_view route d ∷ pending_list route pending
 
--- what comes next: nothing, where every pair was met, or a pair that was not, so that the set has one more
-abbrev pub ComesNext : (old new : Form) (all pairs : List Pair) (parts : Parts) (many : ℕ) (met : BTreeSet PairKey) (route : List Way) (pending : List Pending) → Option Entry → Type 0
-ComesNext old new all pairs parts many met route pending None = (n : ℕ) → (m : ℕ) × (search m [] (start old new ∷ []) ≡ search n pairs [])
-ComesNext old new all pairs parts many met route pending (Some e) = IsNext old new all pairs parts met route e.pending pending × (btree_set_len met ≡ many + 1)
+-- what comes next of the pairs before: nothing, where every pair was met, or the first that was not, so that the set has one more
+abbrev pub ComesNext : (all pairs : List Pair) (before : List PendingPair) (parts : Parts) (many : ℕ) (met : BTreeSet PairKey) (route : List Way) (pending : List Pending) → Option Entry → Type 0
+ComesNext all pairs before parts many met route pending None = unmet pairs before ≡ []
+ComesNext all pairs before parts many met route pending (Some e) = IsNext all pairs before parts met route e.pending pending × (btree_set_len met ≡ many + 1)
+
+-- A search of these pairs, where those were met, gives what the whole search gives.
+abbrev pub Searches : (old new : Form) (pairs : List Pair) → List PendingPair → Type 0
+Searches old new pairs ds = (n : ℕ) → (m : ℕ) × (search m [] (start old new ∷ []) ≡ search n pairs ds)
 
 -- The pairs that the row of a pair names come first of what is still to be entered; or no row names it.
 abbrev pub Enters : (passes : Bool) → (level : ℕ) → Pending → (old new : List Pending) → Type 0

@@ -27,8 +27,8 @@ pub(crate) fn are_known(alloc: Global, old: &[FieldShape], new: &[FieldShape]) -
     true
 }
 
-// Whether a field has the name.
-fn is_field(alloc: Global, index: &mut NameIndex<'_, FieldShape>, name: &str) -> bool
+/// Whether a field has the name.
+pub fn is_field(alloc: Global, index: &mut NameIndex<'_, FieldShape>, name: &str) -> bool
     ensures is { result ≡ named.has (fields_of index.old.items.now) name.now }
     ensures items { index.new.items ≡ index.old.items }
 {
@@ -38,8 +38,8 @@ fn is_field(alloc: Global, index: &mut NameIndex<'_, FieldShape>, name: &str) ->
     }
 }
 
-// The shape of the field of a name.
-fn shape_of<'s>(
+/// The shape of the field of a name.
+pub fn shape_of<'s>(
     alloc: Global,
     index: &mut NameIndex<'s, FieldShape>,
     name: &str,
@@ -54,8 +54,8 @@ fn shape_of<'s>(
     }
 }
 
-// The content of the variant of a name.
-pub(crate) fn content_of<'s>(
+/// The content of the variant of a name.
+pub fn content_of<'s>(
     alloc: Global,
     index: &mut NameIndex<'s, VariantShape>,
     name: &str,
@@ -116,8 +116,8 @@ fn push_field<'s>(
     }
 }
 
-// Whether the shape is an option itself.
-fn is_option(shape: &Shape) -> bool
+/// Whether the shape is an option itself.
+pub fn is_option(shape: &Shape) -> bool
     ensures { result ≡ is_option shape.now }
 {
     matches!(shape.form(), Form::Option(_))
@@ -229,8 +229,12 @@ fn push_variant<'s>(
     }
 }
 
-// The parts of the content of a variant of this name, one by one. Whether both are of the same class, and pass.
-fn push_content<'s>(
+/// The parts of the content of a variant of this name, one by one. Whether both are of the same class, and pass.
+///
+/// # Errors
+///
+/// Memory ran out.
+pub fn push_content<'s>(
     alloc: Global,
     name: &'s str,
     old: &'s VariantContent,

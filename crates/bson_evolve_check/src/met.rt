@@ -10,7 +10,7 @@ use std::alloc::AllocError;
 use std::collections::BTreeSet;
 
 /// The pairs that were met.
-pub(crate) type Met = BTreeSet<(usize, usize)>;
+pub type Met = BTreeSet<(usize, usize)>;
 
 /// Whether the pair of the parts of these numbers is new. It is met now.
 ///

@@ -13,10 +13,10 @@ use std::collections::BTreeMap;
 
 /// A part, and what it is seen through, with the number of that.
 #[derive(Clone, Copy)]
-pub(crate) struct Part<'s> {
-    pub(crate) place: Place<'s>,
-    pub(crate) seen: Place<'s>,
-    pub(crate) number: usize,
+pub struct Part<'s> {
+    pub place: Place<'s>,
+    pub seen: Place<'s>,
+    pub number: usize,
 }
 
 /// What tells a part from others: the number of the definitions around it, and its notation.
@@ -27,7 +27,7 @@ type Origin = (usize, usize, u8);
 
 /// Parts that were seen through, each at its number, and the part that was found last at each origin.
 #[derive(Drop)]
-pub(crate) struct Parts<'s> {
+pub struct Parts<'s> {
     tables: Tables<'s>,
     known: Vec<Place<'s>>,
     numbers: BTreeMap<PartKey, usize>,
@@ -36,7 +36,7 @@ pub(crate) struct Parts<'s> {
 
 impl<'s> Parts<'s> {
     /// No parts have a number.
-    pub(crate) fn new(alloc: Global) -> Parts<'s>
+    pub fn new(alloc: Global) -> Parts<'s>
         ensures { AreGood result }
     {
         Parts {
@@ -52,7 +52,7 @@ impl<'s> Parts<'s> {
     /// # Errors
     ///
     /// Memory ran out.
-    pub(crate) fn outside(&mut self) -> Result<Table<'s>, AllocError>
+    pub fn outside(&mut self) -> Result<Table<'s>, AllocError>
         requires { AreGood self.old }
         ensures more { IfOk result (λ t. AreMore self.old self.new) }
         ensures number { IfOk result (λ t. IsTable (tables_in self.new.tables) t) }
@@ -69,7 +69,7 @@ impl<'s> Parts<'s> {
     /// # Errors
     ///
     /// Memory ran out.
-    pub(crate) fn part(
+    pub fn part(
         &mut self,
         alloc: Global,
         place: Place<'s>,

@@ -14,7 +14,7 @@ use std::alloc::{AllocError, Global};
 /// # Errors
 ///
 /// Memory ran out.
-pub(crate) fn path_of(alloc: Global, route: &[Way<'_>]) -> Result<Path, AllocError>
+pub fn path_of(alloc: Global, route: &[Way<'_>]) -> Result<Path, AllocError>
     ensures { IfOk result (λ p. path_view p ≡ route_path route.now) }
 {
     let mut segments = Vec::new(alloc);

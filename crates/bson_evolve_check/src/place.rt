@@ -5,16 +5,16 @@ use bson_shape::{FieldShape, Shape};
 
 /// Definitions, and their number, which they have in common with all of the same names and shapes.
 #[derive(Clone, Copy)]
-pub(crate) struct Table<'s> {
-    pub(crate) number: usize,
-    pub(crate) definitions: &'s [FieldShape],
+pub struct Table<'s> {
+    pub number: usize,
+    pub definitions: &'s [FieldShape],
 }
 
 /// A part, and the innermost definitions around it.
 #[derive(Clone, Copy)]
-pub(crate) struct Place<'s> {
-    pub(crate) table: Table<'s>,
-    pub(crate) shape: &'s Shape,
+pub struct Place<'s> {
+    pub table: Table<'s>,
+    pub shape: &'s Shape,
 }
 
 /// No definitions.

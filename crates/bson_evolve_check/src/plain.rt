@@ -37,7 +37,7 @@ impl<'s> Around<'s> {
 /// Each name of a newtype, a struct, a field and a variant is free: it does not begin with `$` and holds no zero character. Nothing is ignored or kept in its bytes,
 /// each map has texts or unit variants as its keys, and nothing depends on whether the reader is human. Where texts are mended none is borrowed, and
 /// each reference has its definition.
-pub(crate) fn is_plain(shape: &Shape) -> bool
+pub fn is_plain(shape: &Shape) -> bool
     ensures { IsTrue result ↔ IsPlain shape.now }
 {
     is_plain_in(Around::new(no_definitions()), shape)

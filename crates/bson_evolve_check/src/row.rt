@@ -27,7 +27,7 @@ const ANY_KEY: &str = "*";
 /// # Errors
 ///
 /// Memory ran out.
-pub(crate) fn row<'s>(
+pub fn row_of<'s>(
     alloc: Global,
     old: &'s Shape,
     new: &'s Shape,

@@ -7,7 +7,7 @@ ghost use Rattle.bson_evolve_laws.specs.First.{Pair};
 ghost use Rattle.bson_evolve_check.specs.Checks.{ArePlain};
 ghost use Rattle.bson_evolve_check.specs.Numbering.{AreGood};
 ghost use Rattle.bson_evolve_check.specs.Placing.{tables_in};
-ghost use Rattle.bson_evolve_check.specs.Searching.{pending_at, pending_of, AreKnown, ComesNext, Enters, Finds, GoesOn};
+ghost use Rattle.bson_evolve_check.specs.Searching.{pending_at, pending_list, pending_of, AreKnown, ComesNext, Enters, Finds, GoesOn};
 ghost use Rattle.bson_evolve_check.specs.declared.step.Way.{Way as WayView};
 ghost use Rattle.bson_evolve_check.specs.Steps.{way_path};
 
@@ -15,7 +15,7 @@ use crate::met::{Met, meet};
 use crate::parts::Parts;
 use crate::path::path_of;
 use crate::place::{Place, Table};
-use crate::row::row;
+use crate::row::row_of;
 use crate::step::{Step, Way};
 use bson_shape::Shape;
 use bson_values::Path;
@@ -24,16 +24,16 @@ use std::collections::BTreeSet;
 
 /// A pair that is still to be entered: how many ways of the route lead to the pair whose row names it, and the way from there.
 #[derive(Clone, Copy)]
-pub(crate) struct Pending<'s> {
-    pub(crate) level: usize,
-    pub(crate) way: Way<'s>,
-    pub(crate) old: Place<'s>,
-    pub(crate) new: Place<'s>,
+pub struct Pending<'s> {
+    pub level: usize,
+    pub way: Way<'s>,
+    pub old: Place<'s>,
+    pub new: Place<'s>,
 }
 
 /// Where a pair was found: the numbers of the parts whose row names it, and how many it names before it.
 #[derive(Clone, Copy)]
-pub(crate) struct Origin {
+pub struct Origin {
     old: usize,
     new: usize,
     before: usize,
@@ -41,17 +41,17 @@ pub(crate) struct Origin {
 
 /// A pair that is still to be entered, and where it was found.
 #[derive(Clone, Copy)]
-pub(crate) struct Waiting<'s> {
-    pub(crate) pending: Pending<'s>,
-    pub(crate) origin: Origin,
+pub struct Waiting<'s> {
+    pub pending: Pending<'s>,
+    pub origin: Origin,
 }
 
 /// A pair that is entered, each part of it seen through, and the numbers of its parts.
 #[derive(Clone, Copy)]
-pub(crate) struct Entry<'s> {
-    pub(crate) pending: Pending<'s>,
-    pub(crate) old: usize,
-    pub(crate) new: usize,
+pub struct Entry<'s> {
+    pub pending: Pending<'s>,
+    pub old: usize,
+    pub new: usize,
 }
 
 /// The path to the first pair, in depth-first order, that passes no row; `None` where each one passes. The last shape is `bson`.
@@ -89,8 +89,12 @@ pub(crate) fn first_fault<'s>(
     Ok(None)
 }
 
-// The first of the pairs that are still to be entered which was not met before, each part of it seen through. From now on it is met.
-fn next_unmet<'s>(
+/// The first of the pairs that are still to be entered which was not met before, each part of it seen through. From now on it is met.
+///
+/// # Errors
+///
+/// Memory ran out.
+pub fn next_unmet<'s>(
     alloc: Global,
     parts: &mut Parts<'s>,
     met: &mut Met,
@@ -98,8 +102,8 @@ fn next_unmet<'s>(
 ) -> Result<Option<Entry<'s>>, AllocError>
     requires good { AreGood parts.old }
     requires known { AreKnown (tables_in parts.old.tables) (reverse (pending_of waiting.old.items)) }
-    ensures { IfOk result (λ o. (old new : Form) (all pairs : List Pair) (route : List WayView) → GoesOn old new all pairs parts.old met.old route (pending_of waiting.old.items)
-        → ComesNext old new all pairs parts.new (btree_set_len met.old) met.new route (pending_of waiting.new.items) o) }
+    ensures { IfOk result (λ o. (all pairs : List Pair) (route : List WayView) → GoesOn all pairs parts.old met.old route (pending_of waiting.old.items)
+        → ComesNext all pairs (pending_list route (pending_of waiting.old.items)) parts.new (btree_set_len met.old) met.new route (pending_of waiting.new.items) o) }
 {
     while let Some(next) = waiting.pop() {
         let pending = next.pending;
@@ -122,8 +126,8 @@ fn next_unmet<'s>(
     Ok(None)
 }
 
-// The pair of the two shapes, without definitions around them.
-fn start<'s>(table: Table<'s>, old: &'s Shape, new: &'s Shape) -> Waiting<'s>
+/// The pair of the two shapes, without definitions around them.
+pub fn start<'s>(table: Table<'s>, old: &'s Shape, new: &'s Shape) -> Waiting<'s>
     ensures way { way_path result.pending.way ≡ [] }
     ensures level { result.pending.level ≡ 0 }
     ensures old { result.pending.old ≡ record { table = table.entry; shape = old.entry } }
@@ -155,7 +159,7 @@ fn push_row<'s>(
     requires { bson.now ≡ leaf Bson }
     ensures { IfOk result (λ passes. Enters passes level next.entry.pending (pending_of waiting.old.items) (pending_of waiting.new.items)) }
 {
-    match row(alloc, next.pending.old.shape, next.pending.new.shape, bson)? {
+    match row_of(alloc, next.pending.old.shape, next.pending.new.shape, bson)? {
         Some(steps) => {
             push_steps(waiting, level, next, steps)?;
             Ok(true)
@@ -164,8 +168,12 @@ fn push_row<'s>(
     }
 }
 
-// The pairs of these steps are to be entered next, the first one first.
-fn push_steps<'s>(
+/// The pairs of these steps are to be entered next, the first one first.
+///
+/// # Errors
+///
+/// Memory ran out.
+pub fn push_steps<'s>(
     waiting: &mut Vec<Waiting<'s>>,
     level: usize,
     next: Entry<'s>,

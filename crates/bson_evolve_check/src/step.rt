@@ -9,7 +9,7 @@ use std::alloc::{AllocError, Global};
 
 /// Where a part is in the value around it.
 #[derive(Clone, Copy)]
-pub(crate) enum Inner<'s> {
+pub enum Inner<'s> {
     /// The value itself.
     Here,
     /// At a key.
@@ -20,25 +20,25 @@ pub(crate) enum Inner<'s> {
 
 /// The way from a value to one of its parts: under the name of a variant, where there is one, and then where the part is in its content.
 #[derive(Clone, Copy)]
-pub(crate) struct Way<'s> {
-    pub(crate) variant: Option<&'s str>,
-    pub(crate) inner: Inner<'s>,
+pub struct Way<'s> {
+    pub variant: Option<&'s str>,
+    pub inner: Inner<'s>,
 }
 
 /// A pair of parts, and the way to it.
 #[derive(Clone, Copy)]
-pub(crate) struct Step<'s> {
-    pub(crate) way: Way<'s>,
-    pub(crate) old: &'s Shape,
-    pub(crate) new: &'s Shape,
+pub struct Step<'s> {
+    pub way: Way<'s>,
+    pub old: &'s Shape,
+    pub new: &'s Shape,
 }
 
 /// The pairs that must pass; `None` where no row names the pair.
-pub(crate) type Answer<'s> = Option<Vec<Step<'s>>>;
+pub type Answer<'s> = Option<Vec<Step<'s>>>;
 
 impl<'s> Way<'s> {
     /// The value itself.
-    pub(crate) fn here() -> Way<'s>
+    pub fn here() -> Way<'s>
         ensures { way_path result ≡ [] }
     {
         Way {
@@ -48,7 +48,7 @@ impl<'s> Way<'s> {
     }
 
     /// The value at a key.
-    pub(crate) fn key(key: &'s str) -> Way<'s>
+    pub fn key(key: &'s str) -> Way<'s>
         ensures { way_path result ≡ at_key key.now ∷ [] }
     {
         Way {
@@ -58,7 +58,7 @@ impl<'s> Way<'s> {
     }
 
     /// The value at an index.
-    pub(crate) fn index(index: usize) -> Way<'s>
+    pub fn index(index: usize) -> Way<'s>
         ensures { way_path result ≡ at_index index ∷ [] }
     {
         Way {
@@ -70,7 +70,7 @@ impl<'s> Way<'s> {
 
 impl<'s> Step<'s> {
     /// A pair at a key of the content of a variant, where there is one.
-    pub(crate) fn at_key(
+    pub fn at_key(
         variant: Option<&'s str>,
         key: &'s str,
         old: &'s Shape,
@@ -86,7 +86,7 @@ impl<'s> Step<'s> {
     }
 
     /// A pair at an index of the content of a variant, where there is one.
-    pub(crate) fn at_index(
+    pub fn at_index(
         variant: Option<&'s str>,
         index: usize,
         old: &'s Shape,
@@ -102,7 +102,7 @@ impl<'s> Step<'s> {
     }
 
     /// The pair that a newtype variant of this name holds.
-    pub(crate) fn in_variant(name: &'s str, old: &'s Shape, new: &'s Shape) -> Step<'s>
+    pub fn in_variant(name: &'s str, old: &'s Shape, new: &'s Shape) -> Step<'s>
         ensures { step_view result ≡ rows.step (at_key name.now ∷ []) old.now new.now }
     {
         let way = Way {

@@ -71,7 +71,7 @@ module _ (P Q : Form → Type 0) where
   else_named true o n = tt
   else_named false o n = n
 
-  all_steps : (xs rest : List Step) → Meets Sides xs → Meets Sides rest → Meets Sides (xs ++ rest)
+  pub all_steps : (xs rest : List Step) → Meets Sides xs → Meets Sides rest → Meets Sides (xs ++ rest)
   all_steps [] rest a b = b
   all_steps (x ∷ xs) rest a b = (a.0, all_steps xs rest a.1 b)
 
@@ -105,14 +105,14 @@ module _ (P Q : Form → Type 0) where
   FoundContent R None = Unit {0}
   FoundContent R (Some c) = ContentAll R c
 
-  found_field : (fs : Fields) (n : Utf8) → FieldsAll P fs → Found P (form_of fs n)
+  pub found_field : (fs : Fields) (n : Utf8) → FieldsAll P fs → Found P (form_of fs n)
   found_field no_fields n p = tt
   found_field (field name x fs) n p = by_case (bytes_eq name n) (found_field fs n p.1) where
     by_case : (b : Bool) → Found P (form_of fs n) → Found P (cond b (Some x) (form_of fs n))
     by_case true f = p.0
     by_case false f = f
 
-  found_content : (vs : Variants) (n : Utf8) → VariantsAll Q vs → FoundContent Q (content_of vs n)
+  pub found_content : (vs : Variants) (n : Utf8) → VariantsAll Q vs → FoundContent Q (content_of vs n)
   found_content no_variants n q = tt
   found_content (variant name c vs) n q = by_case (bytes_eq name n) (found_content vs n q.1) where
     by_case : (b : Bool) → FoundContent Q (content_of vs n) → FoundContent Q (cond b (Some c) (content_of vs n))
@@ -139,7 +139,7 @@ module _ (P Q : Form → Type 0) where
   parts_named path i no_parts (part y qs) p q = tt
   parts_named path i (part x ps) no_parts p q = tt
 
-  content_named : (n : Utf8) (c : Content) (o : Option Content) → ContentAll P c → FoundContent Q o → Named Sides (content_row n c o)
+  pub content_named : (n : Utf8) (c : Content) (o : Option Content) → ContentAll P c → FoundContent Q o → Named Sides (content_row n c o)
   content_named n unit_content (Some unit_content) p q = tt
   content_named n (newtype_content x) (Some (newtype_content y)) p q = ((p, q), tt)
   content_named n (tuple_content ps) (Some (tuple_content qs)) p q = parts_named (at_key n ∷ []) 0 ps qs p q

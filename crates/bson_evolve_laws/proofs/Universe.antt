@@ -13,7 +13,7 @@ use Rattle.bson_evolve_laws.specs.Compatible.{Meets}
 use Rattle.bson_evolve_laws.specs.First.{Pair, pair_of}
 use Rattle.bson_evolve_laws.specs.Placed.{Placed, placed, peel}
 use Rattle.bson_evolve_laws.specs.Places.{places, field_places, part_places, variant_places, content_places, all_places}
-use Rattle.bson_evolve_laws.specs.Rows.{Step, row}
+use Rattle.bson_evolve_laws.specs.Rows.{Step, Answer, row}
 use Rattle.bson_evolve_laws.proofs.Peels.{IsAround, IsPart, inside, in_newtype, in_lossy, peeled}
 use Rattle.bson_evolve_laws.proofs.Searched.{In}
 use Rattle.bson_evolve_laws.proofs.StepParts.{PartsAll, FieldsAll, ContentAll, VariantsAll, InnerAll, Named, row_named}
@@ -284,21 +284,30 @@ named_steps : (R S : Form → Form → Type 0) → ((x y : Form) → R x y → S
 named_steps R S f [] m = tt
 named_steps R S f (s ∷ ss) m = (f s.old s.new m.0, named_steps R S f ss m.1)
 
+-- What holds of the forms, of their parts and of `bson` holds of the pairs that are named.
+abbrev pub NamesParts : (Form → Form → Answer) → Type 1
+NamesParts next = (P Q : Form → Type 0) (a b : Form) → P a → InnerAll P a → P (leaf Bson) → Q b → InnerAll Q b → Named (λ x y. P x × Q y) (next a b)
+
 module _ (U V : List Placed) (u : AllHeld U U) (v : AllHeld V V) where
-  parts_closed : (a b : Placed) → IsAmong a U → IsAmong b V → (ss : List Step) → row (peel a).form (peel b).form ≡ Some ss
-      → Meets (λ x y. In (pair_of (placed (peel a).around x) (placed (peel b).around y)) (pairs U V)) ss
-  parts_closed a b i j ss e =
-      let k = peel_here U u a.around a.form (held_at U U a u i).is i in
-      let l = peel_here V v b.around b.form (held_at V V b v j).is j in
-      let old = held_at U U (peel a) u k in
-      let new = held_at V V (peel b) v l in
-      let there = row_named (Here U (peel a).around) (Here V (peel b).around) (peel a).form (peel b).form k old.inner old.table.bson l new.inner in
-      named_steps (λ x y. Here U (peel a).around x × Here V (peel b).around y) (λ x y. In (pair_of (placed (peel a).around x) (placed (peel b).around y)) (pairs U V))
-      (λ x y s. pair_there (placed (peel a).around x) (placed (peel b).around y) U V s.0 s.1) ss
-      (subst (Named (λ x y. Here U (peel a).around x × Here V (peel b).around y)) e there)
+  module _ (next : Form → Form → Answer) (named : NamesParts next) where
+    parts_closed : (a b : Placed) → IsAmong a U → IsAmong b V → (ss : List Step) → next (peel a).form (peel b).form ≡ Some ss
+        → Meets (λ x y. In (pair_of (placed (peel a).around x) (placed (peel b).around y)) (pairs U V)) ss
+    parts_closed a b i j ss e =
+        let k = peel_here U u a.around a.form (held_at U U a u i).is i in
+        let l = peel_here V v b.around b.form (held_at V V b v j).is j in
+        let old = held_at U U (peel a) u k in
+        let new = held_at V V (peel b) v l in
+        let there = named (Here U (peel a).around) (Here V (peel b).around) (peel a).form (peel b).form k old.inner old.table.bson l new.inner in
+        named_steps (λ x y. Here U (peel a).around x × Here V (peel b).around y) (λ x y. In (pair_of (placed (peel a).around x) (placed (peel b).around y)) (pairs U V))
+        (λ x y s. pair_there (placed (peel a).around x) (placed (peel b).around y) U V s.0 s.1) ss
+        (subst (Named (λ x y. Here U (peel a).around x × Here V (peel b).around y)) e there)
+
+    -- the pairs that are named for one of these are among these
+    pub answers_closed : (p : Pair) → In p (pairs U V) → (ss : List Step) → next p.old.form p.new.form ≡ Some ss → Meets (λ x y. In (pair_of (placed p.old.around x) (placed p.new.around y)) (pairs U V)) ss
+    answers_closed p i ss e =
+        let r = pair_parts U V p i in
+        subst (λ q. Meets (λ x y. In (pair_of (placed q.old.around x) (placed q.new.around y)) (pairs U V)) ss) (sym r.is)
+        (parts_closed r.old r.new r.old_there r.new_there ss (subst (λ q. next q.old.form q.new.form ≡ Some ss) r.is e))
 
   pub pairs_closed : (p : Pair) → In p (pairs U V) → (ss : List Step) → row p.old.form p.new.form ≡ Some ss → Meets (λ x y. In (pair_of (placed p.old.around x) (placed p.new.around y)) (pairs U V)) ss
-  pairs_closed p i ss e =
-      let r = pair_parts U V p i in
-      subst (λ q. Meets (λ x y. In (pair_of (placed q.old.around x) (placed q.new.around y)) (pairs U V)) ss) (sym r.is)
-      (parts_closed r.old r.new r.old_there r.new_there ss (subst (λ q. row q.old.form q.new.form ≡ Some ss) r.is e))
+  pairs_closed = answers_closed row row_named

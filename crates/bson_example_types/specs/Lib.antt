@@ -1,3 +1,4 @@
+pub mod Names
 pub mod Cat
 pub mod Pet
 pub mod Person

@@ -3,7 +3,7 @@ ghost use Rattle.bson.specs.Returned.{Reads};
 ghost use Rattle.bson.specs.ShapeOf.{IsShapeOf};
 ghost use Rattle.bson.specs.Value.{tuple, item, no_items};
 ghost use Rattle.bson.specs.View.{view, items_view};
-ghost use Rattle.bson_example_types.specs.Pedigree.{bred, parents_form, variants_form, pedigree_contents, taken_founder, taken_inside, taken_both, taken_parents, taken_pedigree};
+ghost use Rattle.bson_example_types.specs.Pedigree.{bred, parents_form, variants_form, pedigree_contents, taken_founder, taken_inside, taken_parents, taken_pedigree};
 
 use bson::{
     Datum, Deserialize, FieldShape, NeverNull, RoundTrip, Serialize, Shape, ShapeError,
@@ -170,21 +170,13 @@ fn bred_in(alloc: Global, datum: &Datum<'_>) -> de::Result<Pedigree>
 
 // The same of the data of the two.
 #[cycle(pedigree)]
+#[tactic(auto, using(crate::specs::Pedigree::sire_fails, crate::specs::Pedigree::dam_fails, crate::specs::Pedigree::both_read, crate::specs::Pedigree::too_few, crate::specs::Pedigree::too_many))]
 fn parents_in(alloc: Global, parents: &[Datum<'_>]) -> de::Result<Pedigree>
     ensures { Reads pedigree_contents result (taken_parents (items_view parents.now)) }
 {
-    if parents.len() != 2 {
+    let [sire, dam] = parents else {
         return Err(not_fitting());
-    }
-    let (sire, dam) = (&parents[0], &parents[1]);
-    both_in(alloc, sire, dam)
-}
-
-// The cat of these two parents.
-#[cycle(pedigree)]
-fn both_in(alloc: Global, sire: &Datum<'_>, dam: &Datum<'_>) -> de::Result<Pedigree>
-    ensures { Reads pedigree_contents result (taken_both (taken_pedigree (view sire.now)) (taken_pedigree (view dam.now))) }
-{
+    };
     let sire = pedigree_in(alloc, sire)?;
     let dam = pedigree_in(alloc, dam)?;
     Ok(Pedigree::of(alloc, sire, dam)?)

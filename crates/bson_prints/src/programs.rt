@@ -1,6 +1,7 @@
 // What the programs are made of: the shape of a word, the input, the shape that documents have in common, and the comparison of two shapes.
 use bson_base::Document;
 use bson_evolve_check::check;
+use bson_evolve_differences::{Difference, differences};
 use bson_growing::two;
 use bson_infer_run::{InferError, infer};
 use bson_io::MemorySource;
@@ -92,16 +93,51 @@ fn add_check(lines: &mut Lines, alloc: Global, old: &Shape, new: &Shape) {
     lines.made("check", check(alloc, old, new));
 }
 
-/// A shape, and a wider one.
-fn shapes(alloc: Global) -> Result<(Shape, Shape), ParseError> {
-    let narrow = Shape::parse(alloc, "{i:i32}")?;
-    let wide = Shape::parse(alloc, "{i:i64}")?;
-    Ok((narrow, wide))
+/// Adds a difference: where it is, both parts, and the text of its reason.
+fn add_difference(lines: &mut Lines, difference: &Difference) {
+    lines.text("at", &difference.path);
+    lines.named("old", &difference.old);
+    lines.named("new", &difference.new);
+    lines.text("since", &difference.reason);
 }
 
-/// Adds two shapes, compared in both ways.
+/// Adds all differences of two shapes.
+fn add_differences(lines: &mut Lines, alloc: Global, old: &Shape, new: &Shape) {
+    match differences(alloc, old, new) {
+        Ok(found) => {
+            for difference in &found {
+                add_difference(lines, difference);
+            }
+        }
+        Err(error) => lines.text("no differences", &error),
+    }
+}
+
+/// An old shape whose parts differ from those of the new one in each way that there is.
+const OLD: &str = "{a:?i32,b:i64,c:(i32,i32),d:{x:i32},e:i32,f:<A,B(i32),C{x:i32}>,g:{x:i32}}";
+
+/// The new one.
+const NEW: &str =
+    "{a:i32,b:i32,c:(i32),d:[<y>:i32],e:string,f:<B(i32,i32),C{y:i32}>,g:{!y:?i32},h:bool}";
+
+/// Adds the differences of shapes that differ in many ways.
+fn add_all_ways(lines: &mut Lines, alloc: Global) {
+    match two_shapes(alloc, OLD, NEW) {
+        Ok((old, new)) => add_differences(lines, alloc, &old, &new),
+        Err(error) => lines.text("no shapes", &error),
+    }
+}
+
+/// Two shapes.
+fn two_shapes(alloc: Global, old: &str, new: &str) -> Result<(Shape, Shape), ParseError> {
+    let old = Shape::parse(alloc, old)?;
+    let new = Shape::parse(alloc, new)?;
+    Ok((old, new))
+}
+
+/// Adds a shape and a wider one, compared in both ways.
 fn add_checks(lines: &mut Lines, alloc: Global) {
-    match shapes(alloc) {
+    match two_shapes(alloc, "{i:i32}", "{i:i64}") {
         Ok((narrow, wide)) => {
             add_check(lines, alloc, &narrow, &wide);
             add_check(lines, alloc, &wide, &narrow);
@@ -118,4 +154,5 @@ pub fn add_programs(lines: &mut Lines, alloc: Global) {
     add_input(lines, alloc, 1);
     add_documents(lines, alloc);
     add_checks(lines, alloc);
+    add_all_ways(lines, alloc);
 }

@@ -1,10 +1,9 @@
 use Rattle.std.proofs.Common.{◌≡◌, List, reverse}
 use Rattle.std.specs.BTreeSet.{btree_set_len}
-use Rattle.bson_shape.specs.Form.{Form}
-use Rattle.bson_evolve_laws.specs.First.{Pair}
+use Rattle.bson_evolve_laws.specs.First.{unmet, Pair}
 use Rattle.bson_evolve_check.specs.Numbering.{AreGood}
 use Rattle.bson_evolve_check.specs.Placing.{tables_in}
-use Rattle.bson_evolve_check.specs.Searching.{pending_of, AreKnown, GoesOn}
+use Rattle.bson_evolve_check.specs.Searching.{pending_list, pending_of, AreKnown, GoesOn}
 use Rattle.bson_evolve_check.specs.declared.step.Way.{Way}
 use Rattle.bson_evolve_check.proofs.search.next_unmet.Given as goal
 
@@ -13,7 +12,8 @@ abbrev pub invariant-loop-next : goal.invariant-loop-next
 invariant-loop-next l = record {
   good : AreGood l.parts;
   known : AreKnown (tables_in l.parts.tables) (reverse (pending_of l.waiting.items));
-  goes : (old new : Form) (all pairs : List Pair) (route : List Way) → GoesOn old new all pairs l.initial.parts l.initial.met route (pending_of l.initial.waiting.items) → GoesOn old new all pairs l.parts l.met route (pending_of l.waiting.items);
+  goes : (all pairs : List Pair) (route : List Way) → GoesOn all pairs l.initial.parts l.initial.met route (pending_of l.initial.waiting.items)
+      → GoesOn all pairs l.parts l.met route (pending_of l.waiting.items) × (unmet pairs (pending_list route (pending_of l.initial.waiting.items)) ≡ unmet pairs (pending_list route (pending_of l.waiting.items)));
   many : btree_set_len l.met ≡ btree_set_len l.initial.met;
 }
 

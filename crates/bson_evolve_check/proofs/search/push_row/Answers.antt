@@ -1,8 +1,8 @@
 use Rattle.std.proofs.Common.{sym}
 use Rattle.bson_evolve_check.proofs.search.push_row.Goals as goal
 
-pub row-requires : goal.row-requires
-row-requires c = c.requires
+pub row_of-requires : goal.row_of-requires
+row_of-requires c = c.requires
 
 pub returns-in_ok-push_steps-in-Some : goal.returns-in_ok-push_steps-in-Some
 returns-in_ok-push_steps-in-Some c = (c.in-Some.steps.items, sym (rw c.in-Some.is at c.in_ok-steps.ensures), c.in_ok-push_steps-in-Some.ensures)

@@ -1,0 +1,5 @@
+pub mod Again
+pub mod Edits
+pub mod Kept
+pub mod InPlace
+pub mod Twice

@@ -1,0 +1,3 @@
+pub mod Recast
+pub mod Migrating
+pub mod InParts

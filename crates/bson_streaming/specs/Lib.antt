@@ -1,0 +1,7 @@
+pub mod Answers
+pub mod Next
+pub mod Due
+pub mod Turn
+pub mod Streamed
+pub mod Closing
+pub mod Halted
