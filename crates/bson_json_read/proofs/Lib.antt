@@ -1,0 +1,3 @@
+pub mod ParsedText
+pub mod Viewed
+pub mod Words
