@@ -1,0 +1,10 @@
+//! Files of documents with damage in them: what is saved are whole documents, and each stretch of bytes that is left out is told.
+#![tactic(auto)]
+
+mod finding;
+mod looking;
+mod salvaging;
+mod stepping;
+mod window;
+
+pub use salvaging::salvage;
