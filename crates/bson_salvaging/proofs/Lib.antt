@@ -6,3 +6,4 @@ pub mod Steps
 pub mod Saving
 pub mod Saves
 pub mod Ended
+pub mod Undamaged

@@ -4,4 +4,5 @@ pub mod Window
 pub mod Stops
 pub mod Searches
 pub mod Salvaged
+pub mod Undamaged
 pub mod Halted

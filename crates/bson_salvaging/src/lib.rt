@@ -2,9 +2,11 @@
 #![tactic(auto)]
 
 mod finding;
+mod laws;
 mod looking;
 mod salvaging;
 mod stepping;
 mod window;
 
+pub use laws::law_undamaged;
 pub use salvaging::salvage;

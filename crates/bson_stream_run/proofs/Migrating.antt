@@ -1,12 +1,12 @@
 -- A run of the stream beside the migration of the same file.
-use Rattle.std.proofs.Common.{◌≡◌, ℕ, ◌<◌, ◌^◌, Bool, true, false, List, [], ◌∷◌, length, Some, None, Ok, Err, refl, ap, sym, subst, ◌∙◌, inl, inr, arith, append-nil}
+use Rattle.std.proofs.Common.{◌≡◌, ℕ, ◌<◌, ◌^◌, Bool, true, false, List, [], ◌∷◌, length, codes, Some, None, Ok, Err, refl, ap, sym, subst, ◌∙◌, inl, inr, arith, append-nil}
 use Rattle.std.specs.Prelude.{◌⊎◌, if◌then◌else◌}
 use Rattle.std.specs.Io.KnownBytes.{Appends, IsAtEnd}
 use Rattle.bson_kinds.specs.Text.{Bytes, Utf8}
 use Rattle.bson_io.specs.Ends.{last_count, RoseOrLast}
 use Rattle.bson_rawdoc.specs.Cut.{Cut, cut}
 use Rattle.bson_shape.specs.Form.{Form}
-use Rattle.bson_shape.specs.Machine.{parsed}
+use Rattle.bson_shape.specs.Machine.{Not_notation, parsed, run, step, form_due}
 use Rattle.bson_shape.specs.Makers.{IsShape}
 use Rattle.bson_shape.specs.Notation.{text}
 use Rattle.bson_shape.proofs.Texts.{parsed-shape}
@@ -25,9 +25,19 @@ use Rattle.bson_streaming.specs.declared.closing.Ending.TheVariants as endings
 use Rattle.bson_streaming.proofs.Files.{came_within, whole_came, broken_cut}
 use Rattle.bson_stream_run.specs.Migrates.{Writes, Migrates}
 use Rattle.bson_stream_run.specs.Recasts.{recasts}
-use Rattle.bson_stream_run.specs.Rows.{status_of, IsRun}
+use Rattle.bson_stream_run.specs.Rows.{status_of, IsShapeRun, IsRun, salvages, streams}
 use Rattle.bson_stream_run.specs.Words.{stream_command}
 use Rattle.bson_stream_run.proofs.Recast.{is_some_list, outputs_same, lines_same, refused_same}
+
+salvage_is_none : parsed (codes "--salvage") ≡ Err (Not_notation 0)
+unfolding parsed run step form_due
+salvage_is_none = refl
+
+no_shape : (s : Form) (word : Utf8) → IsShape s → text s ∷ [] ≡ word ∷ [] → parsed word ≡ Err (Not_notation 0) → ⊥
+no_shape s word shape words none =
+    let same : text s ≡ word = cc in
+    let clash : Ok s ≡ Err (Not_notation 0) = sym (parsed-shape s shape) ∙ ap parsed same ∙ none in
+    cc
 
 -- ---- the words
 
@@ -101,11 +111,12 @@ module _ (s : Form) (file : Bytes) (r : Run MigrateStatus) (told : r.input.befor
     no_fault (inr h) = quiet_sink r.err.faults_before r.err.faults_after quiet.err quiet.err_below h
   by_ending endings.NoMemory status a = inr status
 
-  by_row : IsShape s → r.words ≡ text s ∷ [] → IsRun r → Migrates s file r
+  by_row : IsShape s → r.words ≡ text s ∷ [] → IsShapeRun r → Migrates s file r
   by_row shape words (inl x) =
       by_ending x.ending x.ended (subst (λ t. IsStreamed recasts t t r.input r.out r.err x.ending) (asked_same s x.shape r.words shape words x.asked) x.streamed)
   by_row shape words (inr (inl x)) = absurd (not_refused s r.words x.line shape words x.refused)
   by_row shape words (inr (inr x)) = inr x.status
 
 pub stream_migrates : (r : Run MigrateStatus) (s : Form) (file : Bytes) → IsRun r → IsShape s → r.words ≡ text s ∷ [] → r.input.before ≡ Some file → length file < 2 ^ 64 → AllQuiet r → Migrates s file r
-stream_migrates r s file x shape is told small quiet = by_row s file r told small quiet shape is x
+stream_migrates r s file (salvages words x) shape is told small quiet = absurd (no_shape s (codes "--salvage") shape (sym is ∙ words) salvage_is_none)
+stream_migrates r s file (streams other x) shape is told small quiet = by_row s file r told small quiet shape is x

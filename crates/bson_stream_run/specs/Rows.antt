@@ -4,6 +4,7 @@ use Rattle.std.specs.Io.KnownBytes.{Keeps}
 use Rattle.bson_kinds.specs.Text.{Utf8}
 use Rattle.bson_shape.specs.Form.{Form}
 use Rattle.bson_program.specs.Command.{IsAskedFor, IsRefused}
+use Rattle.bson_program.specs.Ends.{SourceChange, SinkChange}
 use Rattle.bson_program.specs.Run.{Run, AreKept, AreWritten, AreCut}
 use Rattle.bson_streaming.specs.Streamed.{IsStreamed}
 use Rattle.bson_streaming.specs.declared.closing.Ending.{Ending}
@@ -11,7 +12,8 @@ use Rattle.bson_streaming.specs.declared.closing.Ending.TheVariants as endings
 use Rattle.bson_migrate_run.specs.declared.status.MigrateStatus.{MigrateStatus}
 use Rattle.bson_migrate_run.specs.declared.status.MigrateStatus.TheVariants as statuses
 use Rattle.bson_stream_run.specs.Recasts.{recasts}
-use Rattle.bson_stream_run.specs.Words.{stream_command}
+use Rattle.bson_salvaging.specs.Salvaged.{IsSalvaged}
+use Rattle.bson_stream_run.specs.Words.{salvage_words, stream_command}
 
 -- the status for how a stream ended
 abbrev pub status_of : Ending → MigrateStatus
@@ -44,6 +46,17 @@ pub record UnjudgedRow (r : Run MigrateStatus) : Type 0 where
   pub unread : Keeps r.input.before r.input.after
   pub nothing : AreKept r.out r.err
 
--- what a run does
-abbrev pub IsRun : Run MigrateStatus → Type 0
-IsRun r = RecastRow r ⊎ UsageRow r ⊎ UnjudgedRow r
+-- what a run does whose words do not ask for the documents of a file with damage
+abbrev pub IsShapeRun : Run MigrateStatus → Type 0
+IsShapeRun r = RecastRow r ⊎ UsageRow r ⊎ UnjudgedRow r
+
+-- The documents of a file with damage were written, and each stretch of bytes that is left out was told.
+pub record SalvageRow (input : SourceChange) (out err : SinkChange) (status : MigrateStatus) : Type 0 where
+  pub ending : Ending
+  pub ended : status ≡ status_of ending
+  pub salvaged : IsSalvaged input out err ending
+
+-- what a run does, by its words
+pub data IsRun (r : Run MigrateStatus) : Type 0 where
+  salvages : r.words ≡ salvage_words → SalvageRow r.input r.out r.err r.status → IsRun r
+  streams : (r.words ≡ salvage_words → ⊥) → IsShapeRun r → IsRun r

@@ -1,5 +1,5 @@
 // The run: the words are judged, and then each document is answered as it comes.
-ghost use Rattle.std.specs.Prelude.{◌≡◌, ◌≤◌, ◌<◌, ◌^◌, [], ◌∷◌, length, map, string_bytes, IfOk, Some};
+ghost use Rattle.std.specs.Prelude.{◌≡◌, ◌≤◌, ◌<◌, ◌^◌, ◌↔◌, [], ◌∷◌, length, map, string_bytes, IfOk, IsTrue, Some};
 ghost use Rattle.bson_kinds.specs.Text.{Bytes};
 ghost use Rattle.bson_program.specs.Command.{Asked};
 ghost use Rattle.bson_program.specs.Ends.{source_change, sink_change};
@@ -8,19 +8,20 @@ ghost use Rattle.bson_shape.specs.Form.{Form};
 ghost use Rattle.bson_shape.specs.Makers.{IsShape};
 ghost use Rattle.bson_shape.specs.Notation.{text};
 ghost use Rattle.bson_stream_run.specs.Migrates.{Migrates};
-ghost use Rattle.bson_stream_run.specs.Rows.{status_of, IsRun};
+ghost use Rattle.bson_stream_run.specs.Rows.{status_of, IsRun, IsShapeRun, SalvageRow};
 ghost use Rattle.bson_stream_run.specs.Words.{stream_command};
 
 use crate::recasts::Recasts;
 use bson_io::Sink;
 use bson_migrate_run::MigrateStatus;
 use bson_program::{Answer, Endings, finish, shape_of_word};
+use bson_salvaging::salvage;
 use bson_shape::Shape;
 use bson_streaming::{Ending, Waits, stream};
 use std::alloc::{AllocError, Global};
 
 /// The line for words that ask for nothing.
-const USAGE: &str = "usage: bson_stream SHAPE\n";
+const USAGE: &str = "usage: bson_stream SHAPE | --salvage\n";
 
 const ENDINGS: Endings<MigrateStatus> = Endings {
     sink_fault: MigrateStatus::SinkFault,
@@ -41,6 +42,16 @@ fn status_of(ending: Ending) -> MigrateStatus
     }
 }
 
+// Whether there is one word, which is this.
+fn is_word(words: &[String], word: &str) -> bool
+    ensures { IsTrue result ↔ (map string_bytes words.now ≡ word.now ∷ []) }
+{
+    match words {
+        [only] => only.as_str() == word,
+        _ => false,
+    }
+}
+
 // The shape that the words ask for, or the line that refuses them. The outer error means out of memory.
 fn asked(alloc: Global, words: &[String]) -> Result<Result<Shape, String>, AllocError>
     ensures { IfOk result (Asked stream_command (map string_bytes words.now)) }
@@ -51,14 +62,15 @@ fn asked(alloc: Global, words: &[String]) -> Result<Result<Shape, String>, Alloc
     }
 }
 
-/// Judges the words, and recasts the documents of the input one after another, each as soon as it is there ([`stream`]).
+/// Judges the words, and answers the documents of the input one after another, each as soon as it is there.
 ///
-/// The words ask for a shape where they are exactly one word, which is the notation of one. The status says how it ended:
+/// One word that is the notation of a shape asks for the recast of each document at it ([`stream`]); `--salvage` for the documents of a file with damage, and a line for each stretch of bytes that is left
+/// out ([`salvage`]). The status says how it ended:
 ///
-/// - `Done`: every document was recast and written to `out`, and nothing to `err`.
-/// - `SomeRefused`: some documents are not recast, and `err` has a line for each, with its number, counted from 0. The others were written to `out`.
+/// - `Done`: every document was written to `out`, and nothing to `err`.
+/// - `SomeRefused`: some documents are not recast, or some bytes were left out, and `err` has a line for each. The others were written to `out`.
 /// - `Broken`: at a place no document begins, or another document would end behind byte 2^64 - 1. What is before it was written, and a line tells the place.
-/// - `Usage`: the words ask for no shape. The input is not touched, and a line tells why.
+/// - `Usage`: the words ask for nothing. The input is not touched, and a line tells why.
 /// - `SourceFault`: a call on the input failed. What came before was written, and a line says so.
 /// - `SinkFault`: a call on `out` or `err` failed. Each got a first part of what had to be written.
 /// - `NoMemory`: memory ran out. What was written are whole answers to the documents before.
@@ -80,11 +92,11 @@ pub fn run_stream<I: Waits, O: Sink, E: Sink>(
     ensures out_later { O.faults out.old ≤ O.faults out.new }
     ensures err_later { E.faults err.old ≤ E.faults err.new }
 {
-    run_recasts(alloc, words, input, out, err)
+    run_by_words(alloc, words, input, out, err)
 }
 
 // `run_stream`, but for its other promise.
-fn run_recasts<I: Waits, O: Sink, E: Sink>(
+fn run_by_words<I: Waits, O: Sink, E: Sink>(
     alloc: Global,
     words: &[String],
     input: &mut I,
@@ -92,6 +104,26 @@ fn run_recasts<I: Waits, O: Sink, E: Sink>(
     err: &mut E,
 ) -> MigrateStatus
     ensures runs { IsRun (run_of (map string_bytes words.now) (source_change I.left I.faults input.old input.new)
+        (sink_change O.written O.room O.faults out.old out.new) (sink_change E.written E.room E.faults err.old err.new) result) }
+    ensures input_later { I.faults input.old ≤ I.faults input.new }
+    ensures out_later { O.faults out.old ≤ O.faults out.new }
+    ensures err_later { E.faults err.old ≤ E.faults err.new }
+{
+    if is_word(words, "--salvage") {
+        return run_salvages(alloc, input, out, err);
+    }
+    run_recasts(alloc, words, input, out, err)
+}
+
+// The run that recasts each document, or that is refused.
+fn run_recasts<I: Waits, O: Sink, E: Sink>(
+    alloc: Global,
+    words: &[String],
+    input: &mut I,
+    out: &mut O,
+    err: &mut E,
+) -> MigrateStatus
+    ensures runs { IsShapeRun (run_of (map string_bytes words.now) (source_change I.left I.faults input.old input.new)
         (sink_change O.written O.room O.faults out.old out.new) (sink_change E.written E.room E.faults err.old err.new) result) }
     ensures input_later { I.faults input.old ≤ I.faults input.new }
     ensures out_later { O.faults out.old ≤ O.faults out.new }
@@ -110,4 +142,20 @@ fn run_recasts<I: Waits, O: Sink, E: Sink>(
             finish(ENDINGS, Ok(answer), out, err)
         }
     }
+}
+
+// The run that saves the documents of a file with damage.
+fn run_salvages<I: Waits, O: Sink, E: Sink>(
+    alloc: Global,
+    input: &mut I,
+    out: &mut O,
+    err: &mut E,
+) -> MigrateStatus
+    ensures runs { SalvageRow (source_change I.left I.faults input.old input.new) (sink_change O.written O.room O.faults out.old out.new)
+        (sink_change E.written E.room E.faults err.old err.new) result }
+    ensures input_later { I.faults input.old ≤ I.faults input.new }
+    ensures out_later { O.faults out.old ≤ O.faults out.new }
+    ensures err_later { E.faults err.old ≤ E.faults err.new }
+{
+    status_of(salvage(alloc, input, out, err))
 }
