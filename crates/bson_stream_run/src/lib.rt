@@ -4,7 +4,9 @@
 mod laws;
 mod recasts;
 mod running;
+mod system;
 
 pub use laws::{law_migrate_in_parts, law_stream_is_migrate};
 pub use recasts::Recasts;
 pub use running::run_stream;
+pub use system::run_stream_here;
