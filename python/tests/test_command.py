@@ -9,7 +9,6 @@ import re
 import signal
 import subprocess
 import sys
-import time
 from pathlib import Path
 
 import pytest
@@ -49,7 +48,7 @@ def files():
 def test_help_is_enough():
     ran = tbson_command("--help")
     assert ran.returncode == 0
-    for name in ("profile", "infer", "check", "migrate", "merge"):
+    for name in ("profile", "infer", "check", "migrate", "merge", "diff"):
         assert name in ran.stdout
         helped = tbson_command(name, "-h")
         assert helped.returncode == 0 and "Usage: tbson " + name in helped.stdout and "Exit status" in helped.stdout
@@ -99,7 +98,7 @@ def test_a_shape_in_a_file(folder):
     assert (ran.returncode, ran.stderr) == (2, "tbson: gone.shape: No such file or directory\n")
 
 
-NOT_TAKEN = [("migrate",), ("migrate", "{}", "a"), ("migrate", "{}", "a", "b", "c"), ("check", "{}"), ("check",), ("merge", "a", "b", "c"), ("profile",), ("infer",), ("gone",), ("migrate", "{}", "a", "b", "--rejects", "c.txt")]
+NOT_TAKEN = [("migrate",), ("migrate", "{}", "a"), ("migrate", "{}", "a", "b", "c"), ("check", "{}"), ("check",), ("merge", "a", "b", "c"), ("profile",), ("infer",), ("diff", "{}"), ("diff", "{}", "{}", "{}"), ("gone",), ("migrate", "{}", "a", "b", "--rejects", "c.txt")]
 
 
 @pytest.mark.parametrize("words", NOT_TAKEN, ids=map(" ".join, NOT_TAKEN))
@@ -115,6 +114,39 @@ def test_a_check(folder):
     ran = tbson_command("check", "{_id:oid}", "people.bson", "people.bson")
     assert ran.returncode == 0 and ran.stdout == 2 * "people.bson: 100 documents, all fit\n"
     assert files() == ["people.bson"]
+
+
+def test_compatible_shapes(folder):
+    Path("old.shape").write_text("{ n: i32 } # as it was\n")
+    for words in (("old.shape", "{n:i64,m:?bool}"), ("{n:i32}", "old.shape"), ("string", "string")):
+        ran = tbson_command("diff", *words)
+        assert (ran.returncode, ran.stdout, ran.stderr) == (0, "compatible: what is written at the old shape is read at the new one\n", "")
+
+
+def test_differences_of_shapes(folder):
+    Path("old.shape").write_text("{\n  n: i64,\n  list: [{a: i32}]\n}\n")
+    ran = tbson_command("diff", "./old.shape", "{n:i32,list:[{b:i32}],m:bool}")
+    assert (ran.returncode, ran.stderr) == (1, "")
+    first, _, *rows = ran.stdout.splitlines()
+    assert first == "3 differences: what is written at the old shape need not be read at the new one"
+    assert [re.split(" {3,}", row) for row in rows] == [
+        [".", "{n:i64,list:[{a:i32}]}", "{n:i32,list:[{b:i32}],m:bool}", "the new field m is no option, and the old struct lacks it"],
+        ["n", "i64", "i32", "the new type lacks numbers of the old one"],
+        ["list[0]", "{a:i32}", "{b:i32}", "the new field b is no option, and the old struct lacks it"],
+    ]
+
+
+def test_shapes_that_are_not_compared(folder):
+    Path("old.shape").write_text("{ n: i33 }\n")
+    for words, said in (
+        (("old.shape", "{}"), "old.shape:1:6: `i33` is no type"),
+        (("{n:i32}", "{n:i33}"), "the shape, at character 4: `i33` is no type"),
+        (("{n:i32}", "gone.shape"), "gone.shape: No such file or directory"),
+        (("ignored", "{}"), "ignored: the old shape is not plain"),
+        (("{}", "{n:ignored}"), "{n:ignored}: the new shape is not plain"),
+    ):
+        ran = tbson_command("diff", *words)
+        assert (ran.returncode, ran.stdout) == (2, "") and ran.stderr.startswith(f"tbson: {said}"), words
 
 
 def test_an_empty_collection(folder):
@@ -185,15 +217,15 @@ LONG_RUNS = [
 @pytest.mark.parametrize("number", [signal.SIGINT, signal.SIGTERM, signal.SIGHUP])
 @pytest.mark.parametrize("words", LONG_RUNS, ids=[words[0] for words in LONG_RUNS])
 def test_an_interrupted_run_leaves_no_file(folder, words, number):
-    with open("large.bson", "wb") as file:
-        for _ in range(60):
-            file.write(b"".join(people(1000)) * 10)
+    Path("large.bson").write_bytes(b"".join(people(1000)) * 200)
     before = files()
-    started = subprocess.Popen([sys.executable, "-m", "tbson", *words], stdout=subprocess.PIPE, stderr=subprocess.PIPE, text=True, start_new_session=True)
-    deadline = time.monotonic() + 30
-    while words[0] == "migrate" and not any(name.endswith(".tbson") for name in files()) and time.monotonic() < deadline:
-        time.sleep(0.002)
-    time.sleep(0.0 if words[0] == "migrate" else 0.7)
+    mine, theirs = os.pipe()
+    paused = [sys.executable, str(Path(__file__).with_name("paused.py")), str(theirs), *words]
+    started = subprocess.Popen(paused, stdout=subprocess.PIPE, stderr=subprocess.PIPE, text=True, start_new_session=True, pass_fds=[theirs])
+    os.close(theirs)
+    assert os.read(mine, 1) == b"!"
+    os.close(mine)
+    assert any(name.endswith(".tbson") for name in files()) == (words[0] == "migrate")
     os.killpg(started.pid, number) if number == signal.SIGINT else started.send_signal(number)
     printed, errors = started.communicate(timeout=60)
     assert (started.returncode, printed, errors) == (130, "", "tbson: interrupted\n")

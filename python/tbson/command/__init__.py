@@ -12,6 +12,7 @@ import click
 from tbson._version import __version__
 from tbson.command.check import check
 from tbson.command.common import INTERRUPTED, Interrupted
+from tbson.command.diff import diff
 from tbson.command.infer import infer
 from tbson.command.merge import merge
 from tbson.command.migrate import migrate
@@ -28,7 +29,7 @@ def tbson() -> None:
     """The command, which has others below it."""
 
 
-for command in (profile, infer, migrate, check, merge):
+for command in (profile, infer, migrate, check, merge, diff):
     tbson.add_command(command)
 
 

@@ -4,6 +4,7 @@ from __future__ import annotations
 
 import functools
 import os
+import re
 import sys
 from contextlib import contextmanager
 from pathlib import Path
@@ -28,6 +29,8 @@ F = TypeVar("F", bound=Callable[..., Any])
 SOME_REFUSED, FAILED, INTERRUPTED = 1, 2, 130
 _WIDE = 160
 _MOST_ROWS = 30
+# What has a dot or a slash outside of quotes is no beginning of a shape.
+_NAMES_A_FILE = re.compile(r"[\w~+-]*[./][\w./~+-]*")
 
 
 class Failed(click.ClickException):
@@ -99,6 +102,16 @@ def _shape_of_word(word: str) -> Shape:
     except ShapeTextRefused as error:
         if os.path.exists(word):
             raise InputRefused(f"{word}: is a file; a shape in a file is given by -f") from error
+        raise
+
+
+def shape_of_word_or_file(word: str) -> Shape:
+    """The shape that the word is, or else that of the file of this name."""
+    try:
+        return shape_of_text(ShapeText(word))
+    except ShapeTextRefused:
+        if os.path.exists(word) or _NAMES_A_FILE.fullmatch(word):
+            return _shape_of_file(Path(word))
         raise
 
 

@@ -11,6 +11,7 @@ tbson infer people.bson > people.shape    a shape that all documents fit; edit i
 tbson check -f people.shape people.bson   does each document fit?
 tbson migrate -f people.shape people.bson typed.bson --rejects refused.bson
 tbson merge typed.bson refused.jsonl repaired.bson whole.bson
+tbson diff old.shape people.shape         is what was written at the old shape read at the new one?
 
 Files are those that mongodump writes without --archive: documents one after another. A file whose name ends in .gz is compressed by gzip. `tbson COMMAND --help`
 says the rest; `tbson migrate --help` has the notation of shapes.
@@ -19,7 +20,7 @@ says the rest; `tbson migrate --help` has the notation of shapes.
 EXIT_STATUS = """\b
 Exit status:
 0    all was done
-1    some documents do not fit, or something that was looked for is missing
+1    some documents do not fit, shapes differ, or something that was looked for is missing
 2    nothing was done: a line on standard error says why
 130  it was interrupted, and left no file half-written
 """
